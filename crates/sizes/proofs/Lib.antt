@@ -1,0 +1,3 @@
+pub mod Test
+pub mod Ladder
+pub mod Six

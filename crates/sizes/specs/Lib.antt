@@ -1,0 +1,3 @@
+pub mod Ladder
+pub mod Six
+pub mod Laws

@@ -1,0 +1,4 @@
+//! Judges of document 01, each written without the others: the original Rust with its stand-ins, a reference from the
+//! document's text, a brute-force store over free frames; a generator of journals, and the comparison.
+pub mod journal;
+pub mod store;
