@@ -1,14 +1,14 @@
 -- The laws of any ladder whose sizes multiply up, each once over the code. Assumes nothing.
 use mathlib.Core.Path.{_≡_, refl, sym, ap, _∙_, subst}
 use mathlib.Core.Bool.{Bool, true, false, _&&_, cond, and-eq-true-iff, and-false, false≢true}
-use Prim.Native.Nat.{ℕ, zero, suc, _+_, _*_, _-_, _/_, _%_, _≤_, _<_, _∣_}
+use Prim.Native.Nat.{ℕ, zero, suc, _+_, _*_, _-_, _/_, _%_, _≤_, _<_, _∣_, min}
 use native.Mathlib.Omega.{arith}
-use native.Mathlib.Nat.{mul-pos, mul-le-mul-right, mul-lt-mul-of-pos-right, mul-assoc, dvd-refl, dvd-trans, dvd-mul-left, dvd-mul-left-of-dvd, dvd-of-mod-eq-zero, mod-eq-zero-of-dvd, div-lt-iff-lt-mul, div-add-mod', mod-lt}
+use native.Mathlib.Nat.{mul-pos, mul-le-mul-right, mul-lt-mul-of-pos-right, mul-assoc, mul-comm, mul-div-cancel, div-le-of-le-mul, min-eq-left, dvd-refl, dvd-trans, dvd-mul-left, dvd-mul-left-of-dvd, dvd-of-mod-eq-zero, mod-eq-zero-of-dvd, div-lt-iff-lt-mul, div-add-mod', mod-lt}
 use native.Mathlib.Decide.{le-ind, ℕ-discrete}
 use lib.Dec.{leb, ltb, eqb}
 use borrow.Author.Tests.{lt-ltb, le-ltb, le-leb, lt-leb, eq-eqb, ne-eqb, eqb-true, leb-true}
-use Rattle.sizes.specs.Ladder.{Ladder, smallest, largest, bytes, fanOut, frames, smaller, childIndex, isChild, childAddress, childSize, fits, largestUpTo, largestAt}
-use Rattle.sizes.specs.Laws.{MultipliesUp, IsCode, Fits, LargestFit, Holds, LadderLaws}
+use Rattle.sizes.specs.Ladder.{Ladder, smallest, largest, bytes, fanOut, frames, smaller, childIndex, isChild, childAddress, childSize, fits, largestUpTo, largestAt, frameAddress, addressFrame}
+use Rattle.sizes.specs.Laws.{MultipliesUp, IsCode, Fits, LargestFit, Holds, ChildAt, LadderLaws}
 
 module _ (L : Ladder) where
   -- the test says that the block fits
@@ -166,6 +166,32 @@ module _ (L : Ladder) (m : MultipliesUp L) where
       let k : IsCode L c = record { low = omega (arith, p .0); high = p .1 } in
       rw (bytes-below c k (p .0)) (mul-lt-mul-of-pos-right h (bytes-pos (smaller L c) (smaller-code c k (p .0))))
 
+  pub children-at : (base c i : ℕ) → base + bytes L c ≤ bytes L (largest L) → i < fanOut L c → ChildAt L base c i (base + i * bytes L (smaller L c)) (c - 1)
+  unfolding childIndex
+  children-at base c i h k =
+      let p = m .parents c (omega arith) in
+      let code : IsCode L c = record { low = omega (arith, p .0); high = p .1 } in
+      let is = child-is L base c i k (omega arith) in
+      let z : base + i * bytes L (smaller L c) - base ≡ i * bytes L (smaller L c) = omega arith in
+      record {
+        address = is .address-is;
+        size = is .size-is ∙ smaller-is L c code (p .0);
+        index = rw z (mul-div-cancel i (bytes-pos (smaller L c) (smaller-code c code (p .0))));
+      }
+
+  top : IsCode L (largest L)
+  top = record { low = m .some; high = omega arith }
+
+  pub frame-back : (f : ℕ) → f ≤ frames L (largest L) → addressFrame L (frameAddress L f) ≡ f
+  unfolding addressFrame frameAddress
+  frame-back f h = rw (min-eq-left h) (mul-div-cancel f (m .page))
+
+  pub address-back : (a : ℕ) → a % bytes L smallest ≡ 0 → a ≤ bytes L (largest L) → frameAddress L (addressFrame L a) ≡ a
+  unfolding addressFrame frameAddress
+  address-back a e h =
+      let k : a / bytes L smallest ≤ frames L (largest L) = div-le-of-le-mul (bytes L smallest) (omega (arith, bytes-product (largest L) top, mul-comm (frames L (largest L)) (bytes L smallest))) in
+      rw (min-eq-left k) (omega (arith, div-add-mod' a (bytes L smallest)))
+
   pub ladder-laws : LadderLaws L
   ladder-laws =
       record {
@@ -174,5 +200,8 @@ module _ (L : Ladder) (m : MultipliesUp L) where
         product = bytes-product;
         grows = bytes-grow;
         largest-fit = largest-fit L;
+        children = children-at;
         holds = child-holds;
+        frame-back = frame-back;
+        address-back = address-back;
       }

@@ -24,7 +24,7 @@ const SMALLEST: usize = 1;
 
 const LARGEST: usize = 6;
 
-const BYTES: [u64; 7] = [
+const BYTES: [u64; LARGEST + 1] = [
     0,
     4096,
     16384,
@@ -34,14 +34,15 @@ const BYTES: [u64; 7] = [
     140737488355328,
 ];
 
-const FAN_OUT: [usize; 7] = [0, 0, 4, 128, 512, 512, 256];
+const FAN_OUT: [usize; LARGEST + 1] = [0, 0, 4, 128, 512, 512, 256];
 
 // A caller's number as a size code, or 0.
 pub fn code(number: u64) -> usize
     ensures { λ r. ⌜ r ≡ code_of six number ⌝ }
 {
-    match number {
-        1..=6 => number as usize,
+    let n = number as usize;
+    match n {
+        SMALLEST..=LARGEST => n,
         _ => 0,
     }
 }
