@@ -2,7 +2,7 @@
 use mathlib.Core.Path.{_≡_, refl}
 use Prim.Native.Nat.{ℕ, _≤_}
 use Rattle.sizes.specs.Ladder.{largest, bytes, fanOut, frames}
-use Rattle.sizes.specs.Six.{six, mostBytes, mostChildren}
+use Rattle.sizes.specs.Six.{six, mostCode, mostBytes, mostChildren}
 use Rattle.sizes.specs.Laws.{MultipliesUp, LadderLaws, P1}
 use Rattle.sizes.proofs.Test.{step, parents, multiplies, multiplies-up, below-at}
 use Rattle.sizes.proofs.Ladder.{ladder-laws}
@@ -22,6 +22,10 @@ p1 = refl
 pub bytes-most : (c : ℕ) → bytes six c ≤ mostBytes
 unfolding bytes
 bytes-most c = below-at mostBytes (six .sizes) tt c
+
+pub largest-most : largest six ≡ mostCode
+unfolding largest
+largest-most = refl
 
 pub bytes-largest : bytes six (largest six) ≡ mostBytes
 unfolding bytes largest

@@ -1,7 +1,7 @@
 -- The six sizes of document 01, as its table has them.
 use mathlib.Core.List.{[], _∷_}
-use Prim.Native.Nat.{ℕ}
-use lib.ListN.{getD}
+use Prim.Native.Nat.{ℕ, pred}
+use lib.ListN.{length, getD}
 use Rattle.sizes.specs.Ladder.{Ladder}
 
 -- by code: none, 4 KiB, 16 KiB, 2 MiB, 1 GiB, 512 GiB, 128 TiB
@@ -11,7 +11,10 @@ six = record {
   fanOuts = 0 ∷ 0 ∷ 4 ∷ 128 ∷ 512 ∷ 512 ∷ 256 ∷ [];
 }
 
--- no page has more bytes, no node more children
+-- no code is higher, no page has more bytes, no node more children
+abbrev pub mostCode : ℕ
+mostCode = pred (length (six .sizes))
+
 abbrev pub mostBytes : ℕ
 mostBytes = getD (six .sizes) 6 0
 

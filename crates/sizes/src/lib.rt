@@ -3,7 +3,7 @@
 ghost use mathlib.Core.Path.{_≡_};
 ghost use Prim.Native.Nat.{_-_, _≤_, min};
 ghost use Rattle.sizes.specs.Ladder.{bytes, fanOut, largest as largest_of, smallest as smallest_of, code as code_of, smaller as smaller_of, larger as larger_of, childIndex, childAddress, childSize, largestAt, frameAddress, addressFrame};
-ghost use Rattle.sizes.specs.Six.{six, mostBytes, mostChildren};
+ghost use Rattle.sizes.specs.Six.{six, mostCode, mostBytes, mostChildren};
 
 // The number of a 4 KiB frame.
 pub struct Frame(pub u64);
@@ -38,7 +38,7 @@ const FAN_OUT: [usize; LARGEST + 1] = [0, 0, 4, 128, 512, 512, 256];
 
 // A caller's number as a size code, or 0.
 pub fn code(number: u64) -> usize
-    ensures { λ r. ⌜ r ≡ code_of six number ⌝ }
+    ensures { λ r. ⌜ (r ≡ code_of six number) × (r ≤ mostCode) ⌝ }
 {
     let n = number as usize;
     match n {
@@ -55,7 +55,7 @@ pub fn in_bytes(size: usize) -> u64
 }
 
 pub fn smaller(size: usize) -> usize
-    ensures { λ r. ⌜ r ≡ smaller_of six size ⌝ }
+    ensures { λ r. ⌜ (r ≡ smaller_of six size) × (r ≤ mostCode) ⌝ }
 {
     if SMALLEST < size {
         if size <= LARGEST {
@@ -66,7 +66,7 @@ pub fn smaller(size: usize) -> usize
 }
 
 pub fn larger(size: usize) -> usize
-    ensures { λ r. ⌜ r ≡ larger_of six size ⌝ }
+    ensures { λ r. ⌜ (r ≡ larger_of six size) × (r ≤ mostCode) ⌝ }
 {
     if SMALLEST <= size {
         if size < LARGEST {
@@ -147,7 +147,7 @@ fn bytes_before(a: u64, n: u64, e: u64) -> u64
 
 // The largest size whose page is aligned at the address and ends at or before end; 0 where none does.
 pub fn find_largest_page_size(address: Address, end: Address) -> usize
-    ensures { λ r. ⌜ r ≡ largestAt six (address .0) (end .0) ⌝ }
+    ensures { λ r. ⌜ (r ≡ largestAt six (address .0) (end .0)) × (r ≤ mostCode) ⌝ }
 {
     let a = address.0;
     let e = end.0;

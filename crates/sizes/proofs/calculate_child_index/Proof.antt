@@ -18,7 +18,7 @@ returns : tie.Need-returns
 unfolding childIndex
 returns c =
     let args = c .before .before .before .args in
-    let z : bytes six (smaller six (args .size)) ≡ 0 = ap (bytes six) (sym (c .before .before .smaller .ensures)) ∙ sym (c .before .in-bytes .ensures .0) ∙ c .if1 .taken in
+    let z : bytes six (smaller six (args .size)) ≡ 0 = ap (bytes six) (sym (c .before .before .smaller .ensures .0)) ∙ sym (c .before .in-bytes .ensures .0) ∙ c .if1 .taken in
     rw z (sym (div-zero (args .address .0 - args .base .0)))
 
 returns-2 : tie.Need-returns-2
@@ -38,7 +38,7 @@ returns-3 : tie.Need-returns-3
 unfolding childIndex
 returns-3 c =
     let args = c .before .before .before .before .args in
-    ap (λ (n : ℕ). (args .address .0 - args .base .0) / n) (c .before .before .in-bytes .ensures .0 ∙ ap (bytes six) (c .before .before .before .smaller .ensures))
+    ap (λ (n : ℕ). (args .address .0 - args .base .0) / n) (c .before .before .in-bytes .ensures .0 ∙ ap (bytes six) (c .before .before .before .smaller .ensures .0))
 
 pub calculate-child-index-spec : {M : Type 1} → statement M
 calculate-child-index-spec =

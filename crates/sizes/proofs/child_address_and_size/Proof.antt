@@ -39,7 +39,7 @@ module _ (c : tie.After-in-bytes3) where
   start = c .before .before .before .before .before .before .before
 
   behind : start .args .index * c .in-bytes3 .result ≡ start .args .index * bytes six (smaller six (start .args .size))
-  behind = ap (λ (n : ℕ). start .args .index * n) (c .in-bytes3 .ensures .0 ∙ ap (bytes six) (c .before .smaller .ensures))
+  behind = ap (λ (n : ℕ). start .args .index * n) (c .in-bytes3 .ensures .0 ∙ ap (bytes six) (c .before .smaller .ensures .0))
 
   child : start .args .index < fanOut six (start .args .size)
   child = omega (arith, c .before .before .before .before .before .if1 .taken)
@@ -62,7 +62,7 @@ returns c =
     let args = start c .args in
     let is : Child six (args .base .0) (args .size) (args .index) (args .base .0 + args .index * bytes six (smaller six (args .size))) (smaller six (args .size)) =
     child-is six (args .base .0) (args .size) (args .index) (child c) (room c) in
-    (ap (λ (n : ℕ). args .base .0 + n) (behind c) ∙ sym (is .address-is), c .before .smaller .ensures ∙ sym (is .size-is))
+    (ap (λ (n : ℕ). args .base .0 + n) (behind c) ∙ sym (is .address-is), c .before .smaller .ensures .0 ∙ sym (is .size-is))
 
 returns-2 : tie.Need-returns-2
 unfolding largest

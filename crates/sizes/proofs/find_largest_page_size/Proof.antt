@@ -6,15 +6,15 @@ use native.Mathlib.Nat.{lt-of-not-le}
 use native.Mathlib.Omega.{arith}
 use borrow.Author.Needs.{needs}
 use Rattle.sizes.specs.Ladder.{largest, bytes, largestUpTo, largestAt}
-use Rattle.sizes.specs.Six.{six}
-use Rattle.sizes.specs.Laws.{IsCode}
+use Rattle.sizes.specs.Six.{six, mostCode}
+use Rattle.sizes.specs.Laws.{IsCode, Fits}
 use Rattle.sizes.proofs.Ladder.{bytes-pos, up-to-here, up-to-not-aligned, up-to-not-end, up-to-none}
-use Rattle.sizes.proofs.Six.{six-multiplies}
+use Rattle.sizes.proofs.Six.{six-multiplies, largest-most}
 use Rattle.sizes.proofs.find_largest_page_size.Statement.{statement}
 use Rattle.sizes.proofs.find_largest_page_size.Tie as tie
 
 abbrev Inv-loop : tie.InvT-loop
-Inv-loop a e size₀ size = (size ≤ largest six) × (largestAt six a e ≡ largestUpTo six size a e)
+Inv-loop a e size₀ size = (size ≤ mostCode) × (largestAt six a e ≡ largestUpTo six size a e)
 
 abbrev μ-loop : tie.MeasureT-loop
 μ-loop a e size₀ size = size
@@ -27,10 +27,10 @@ in-bytes-requires : tie.Need-in-bytes-requires Inv-loop μ-loop
 in-bytes-requires c κs = search needs
 
 -- the size looked at is a code, and not empty
-code : (n : ℕ) → 0 < n → n ≤ largest six → IsCode six n
-code n h k = record { low = h; high = k }
+code : (n : ℕ) → 0 < n → n ≤ mostCode → IsCode six n
+code n h k = record { low = h; high = omega (arith, largest-most) }
 
-some : (n : ℕ) → 0 < n → n ≤ largest six → 0 < bytes six n
+some : (n : ℕ) → 0 < n → n ≤ mostCode → 0 < bytes six n
 some n h k = bytes-pos six six-multiplies n (code n h k)
 
 rem-if1 : tie.Need-rem-if1 Inv-loop μ-loop
@@ -53,13 +53,13 @@ returns c =
     let a : ℕ = loop .before .args .address .0 in
     let e : ℕ = loop .before .args .end .0 in
     let z : c .before .before .before .in-bytes .result ≡ bytes six n = c .before .before .before .in-bytes .ensures .0 in
-    sym (loop .loop .inv .1
-    ∙ up-to-here six a e n
-    (record {
+    let here : Fits six a e n =
+    record {
       code = code n (omega arith) (omega arith);
       aligned = rw z at (c .before .before .if1 .taken);
       ends = ends a (bytes six n) e (c .before .bytes-before .result) (some n (omega arith) (omega arith)) (rw z at (c .before .bytes-before .ensures)) (rw z at (c .if2 .taken));
-    }))
+    } in
+    (sym (loop .loop .inv .1 ∙ up-to-here six a e n here), omega arith)
 
 sub-size : tie.Need-sub-size Inv-loop μ-loop
 sub-size c = omega arith
@@ -84,7 +84,7 @@ returns-2 : tie.Need-returns-2 Inv-loop μ-loop
 returns-2 c =
     let loop = c .before in
     let args = loop .before .args in
-    sym (loop .loop .inv .1 ∙ up-to-none six (args .address .0) (args .end .0) (loop .loop .size) (omega arith))
+    (sym (loop .loop .inv .1 ∙ up-to-none six (args .address .0) (args .end .0) (loop .loop .size) (omega arith)), omega arith)
 
 pub find-largest-page-size-spec : {M : Type 1} → statement M
 find-largest-page-size-spec =
