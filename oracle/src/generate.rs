@@ -7,11 +7,10 @@ use dice::Dice;
 use ledger::{Ledger, Page};
 use std::collections::VecDeque;
 
-mod dice;
+pub(crate) mod dice;
 mod ledger;
 mod plans;
-#[cfg(test)]
-mod room;
+pub(crate) mod room;
 mod seeds;
 #[cfg(test)]
 mod tests;

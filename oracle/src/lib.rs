@@ -1,8 +1,12 @@
 //! Judges of document 01, each written without the others: the original Rust with its stand-ins, a reference from the
 //! document's text, a brute-force store over free frames; a generator of journals, and the comparison.
+pub mod compare;
+pub mod damage;
 pub mod frames;
 pub mod generate;
 pub mod journal;
+pub mod mutants;
 pub mod original;
 pub mod reference;
+pub mod shrink;
 pub mod store;
