@@ -7,7 +7,6 @@ use crate::store::Calls;
 mod bench;
 mod closing;
 mod difference;
-mod guard;
 mod printed;
 mod sweep;
 mod words;

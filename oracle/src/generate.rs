@@ -2,7 +2,7 @@
 //! answers the same: what a store says of each entry decides what the generator believes to be held.
 
 use crate::journal::Entry;
-use crate::store::{Answer, Calls, JOURNAL_POOL, State};
+use crate::store::{Answer, Calls, JOURNAL_POOL};
 use dice::Dice;
 use ledger::{Ledger, Page};
 use std::collections::VecDeque;
@@ -188,16 +188,6 @@ impl Generator {
     }
 }
 
-/// What a store answers to one entry.
-pub fn call(calls: Calls, state: State, pool: &mut [u32], entry: Entry) -> Answer {
-    match entry {
-        Entry::Seed { start, end } => (calls.seed)(state, pool, start, end),
-        Entry::Acquire { code } => (calls.acquire)(state, pool, u64::from(code)),
-        Entry::Release { base, code } => (calls.release)(state, pool, base, u64::from(code)),
-        Entry::Report => (calls.report)(state, pool),
-    }
-}
-
 /// Runs a store on the journal of a profile and a number, and gives the pool's length and the entries.
 pub fn record(profile: Profile, number: u64, length: usize, calls: Calls) -> (usize, Vec<Entry>) {
     let mut generator = Generator::new(profile, number);
@@ -206,7 +196,7 @@ pub fn record(profile: Profile, number: u64, length: usize, calls: Calls) -> (us
     let mut entries = Vec::new();
     for _ in 0..length {
         let entry = generator.next();
-        let answer = call(calls, state, &mut pool, entry);
+        let answer = calls.answer(state, &mut pool, entry);
         generator.answered(entry, &answer);
         state = answer.state;
         entries.push(entry);

@@ -1,5 +1,7 @@
 //! A journal's entries and their bytes (document 01, 'Journal'), for whoever writes or drives one.
 
+use crate::store::Call;
+
 /// One entry of a journal.
 #[derive(Clone, Copy, Debug, PartialEq, Eq)]
 pub enum Entry {
@@ -19,6 +21,29 @@ impl Entry {
             Entry::Report => "report",
         }
     }
+}
+
+impl From<Entry> for Call {
+    fn from(entry: Entry) -> Call {
+        match entry {
+            Entry::Seed { start, end } => Call::Seed { start, end },
+            Entry::Acquire { code } => Call::Acquire { code: u64::from(code) },
+            Entry::Release { base, code } => Call::Release { base, code: u64::from(code) },
+            Entry::Report => Call::Report,
+        }
+    }
+}
+
+pub fn seed(start: u64, end: u64) -> Entry {
+    Entry::Seed { start, end }
+}
+
+pub fn acquire(code: u8) -> Entry {
+    Entry::Acquire { code }
+}
+
+pub fn release(base: u64, code: u8) -> Entry {
+    Entry::Release { base, code }
 }
 
 /// The bytes of a journal.

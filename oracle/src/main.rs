@@ -14,7 +14,7 @@ const USAGE: &str = "usage:
   oracle original < JOURNAL                    what the original Rust answers
   oracle journal PROFILE NUMBER LENGTH > FILE  writes a generated journal
   oracle compare [ENTRIES [NUMBER [PROFILE]]]  compares all judges (200000 entries, numbers from 1 on, all profiles)
-  oracle damage [STORES [NUMBER]]              compares the judges on damaged stores
+  oracle damage [STORES [NUMBER]]              compares two judges of soundness on damaged stores (100000)
   oracle mutants                               shows that wrong stores are found
 profiles:";
 
@@ -22,7 +22,7 @@ profiles:";
 const ENTRIES: u64 = 200_000;
 
 /// How many damaged stores are compared unless the command says so.
-const STORES: u64 = 2_000;
+const STORES: u64 = 100_000;
 
 /// How long a differing journal is made smaller.
 const SHRINKING: Duration = Duration::from_secs(20);

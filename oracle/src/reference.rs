@@ -1,6 +1,6 @@
 //! Document 01 as a program: obviously right rather than fast, in the document's words and order.
 
-use crate::store::{Answer, Calls, JOURNAL_POOL, REGIONS, State};
+use crate::store::{Answer, Calls, JOURNAL_POOL, POOL_LIMIT, REGIONS, State};
 
 // ---- 'Sizes' ----
 
@@ -18,9 +18,6 @@ pub const ROOT: usize = 6;
 
 /// 'Sizes': where the addresses end; the root begins at 0.
 pub const TOP: u64 = BYTES[ROOT];
-
-/// 'State and pool words': the most words that a pool may have.
-pub const POOL_LIMIT: usize = 1_048_576;
 
 /// 'Sizes': the code that a number names, if it names one.
 pub fn code_of(number: u64) -> Option<usize> {
@@ -358,7 +355,7 @@ pub fn tokens_lie_in_the_regions(view: &View) -> bool {
 
 /// 'Sizes': a multiple of the smallest size.
 pub fn is_page_aligned(address: u64) -> bool {
-    address % BYTES[FRAME] == 0
+    address.is_multiple_of(BYTES[FRAME])
 }
 
 // ---- What is free ----
@@ -528,7 +525,7 @@ impl Trial {
 
 /// 'Seed': the largest block that is aligned at the address and ends at or before end.
 pub fn largest_block(at: u64, end: u64) -> usize {
-    let fits = |code: &usize| at % BYTES[*code] == 0 && BYTES[*code] <= end - at;
+    let fits = |code: &usize| at.is_multiple_of(BYTES[*code]) && BYTES[*code] <= end - at;
     (FRAME..=ROOT).rev().find(fits).expect("a frame fits between page-aligned addresses")
 }
 
@@ -626,7 +623,7 @@ pub fn release(state: State, pool: &mut [u32], base: u64, code: u64) -> Answer {
 
 /// 'Refusal numbers', release of a block on a sound store: the first of 2, 3, 6, 7, or 0.
 fn release_refusal(state: State, pool: &[u32], base: u64, code: usize) -> u64 {
-    if base % BYTES[code] != 0 {
+    if !base.is_multiple_of(BYTES[code]) {
         2
     } else if base > TOP - BYTES[code] {
         3

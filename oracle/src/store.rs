@@ -3,6 +3,9 @@
 /// How many region places a state has.
 pub const REGIONS: usize = 8;
 
+/// The most words that a pool may have.
+pub const POOL_LIMIT: usize = 1_048_576;
+
 /// How many words the journal program's pool has.
 pub const JOURNAL_POOL: usize = 16_384;
 
@@ -33,4 +36,36 @@ pub struct Calls {
     pub release: fn(state: State, pool: &mut [u32], base: u64, code: u64) -> Answer,
     pub report: fn(state: State, pool: &mut [u32]) -> Answer,
     pub check: fn(state: State, pool: &[u32]) -> bool,
+}
+
+/// A call on a store, with any numbers.
+#[derive(Clone, Copy, Debug, PartialEq, Eq)]
+pub enum Call {
+    Seed { start: u64, end: u64 },
+    Acquire { code: u64 },
+    Release { base: u64, code: u64 },
+    Report,
+}
+
+impl Call {
+    /// How many results its answer has.
+    pub fn results(self) -> usize {
+        match self {
+            Call::Seed { .. } | Call::Release { .. } => 0,
+            Call::Acquire { .. } => 2,
+            Call::Report => 4,
+        }
+    }
+}
+
+impl Calls {
+    /// What the store answers to a call.
+    pub fn answer(self, state: State, pool: &mut [u32], call: impl Into<Call>) -> Answer {
+        match call.into() {
+            Call::Seed { start, end } => (self.seed)(state, pool, start, end),
+            Call::Acquire { code } => (self.acquire)(state, pool, code),
+            Call::Release { base, code } => (self.release)(state, pool, base, code),
+            Call::Report => (self.report)(state, pool),
+        }
+    }
 }

@@ -7,7 +7,7 @@ use oracle::generate::Profile;
 use oracle::journal::{Entry, decode, encode};
 use oracle::reference;
 use oracle::shrink::{Smallest, shrink};
-use oracle::store::{Answer, Calls, JOURNAL_POOL, State};
+use oracle::store::{Answer, Calls, JOURNAL_POOL, POOL_LIMIT, State};
 use std::io::Write;
 use std::process::{Command, Output, Stdio};
 use std::time::Duration;
@@ -137,11 +137,11 @@ fn the_journals_pool_fills_up() {
 
 #[test]
 fn pools_outside_their_limits() {
-    for pool_words in [0, reference::POOL_LIMIT + 1] {
+    for pool_words in [0, POOL_LIMIT + 1] {
         let run = compare(Some(reference::CALLS), &JOURNAL, pool_words).expect("no difference");
         assert_eq!((run.entries, run.refusals[10]), (7, 7));
     }
-    for pool_words in [1, 1_412, 1_413, 1_417, 1_418, reference::POOL_LIMIT] {
+    for pool_words in [1, 1_412, 1_413, 1_417, 1_418, POOL_LIMIT] {
         compare(Some(reference::CALLS), &JOURNAL[..2], pool_words).expect("no difference");
     }
 }

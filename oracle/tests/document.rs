@@ -2,7 +2,7 @@
 
 use oracle::journal::{Entry, encode};
 use oracle::reference::*;
-use oracle::store::{Answer, REGIONS, State};
+use oracle::store::{Answer, POOL_LIMIT, REGIONS, State};
 
 /// Where the document's journal seeds.
 const GIB2: u64 = 2_147_483_648;

@@ -2,8 +2,7 @@
 //! judges answer to it.
 
 use oracle::frames::Frames;
-use oracle::generate::call;
-use oracle::journal::Entry;
+use oracle::journal::{Entry, acquire, release, seed};
 use oracle::original::{Original, Told};
 use oracle::reference::{self, CALLS};
 use oracle::store::{JOURNAL_POOL, State};
@@ -11,18 +10,6 @@ use oracle::store::{JOURNAL_POOL, State};
 const GIB_2: u64 = 1 << 31;
 const TOP: u64 = 1 << 47;
 const PAGE: u64 = 4_096;
-
-fn seed(start: u64, end: u64) -> Entry {
-    Entry::Seed { start, end }
-}
-
-fn acquire(code: u8) -> Entry {
-    Entry::Acquire { code }
-}
-
-fn release(base: u64, code: u8) -> Entry {
-    Entry::Release { base, code }
-}
 
 /// The judges, side by side. The frames and the original know no pool: they follow what the reference accepts.
 struct Judges {
@@ -41,7 +28,7 @@ impl Judges {
 
     /// What reference, original and frames answer: refusal number and results.
     fn ask(&mut self, entry: Entry) -> [String; 3] {
-        let answer = call(CALLS, self.state, &mut self.pool, entry);
+        let answer = CALLS.answer(self.state, &mut self.pool, entry);
         self.state = answer.state;
         let told = self.frames.judge(entry);
         self.frames.apply(entry);

@@ -1,17 +1,16 @@
 //! All judges side by side, each with its own state, and what one entry demands of them.
 
 use super::difference::{of_answer, of_frames, of_original, of_ranges, of_state, of_words};
-use super::guard::guarded;
 use super::printed::line;
 use super::words::Opened;
 use super::{Difference, REFUSALS, Run};
 use crate::frames::{FRAME, Frames, Range, size};
-use crate::generate::call;
 use crate::generate::room::Room;
+use crate::guard::guarded;
 use crate::journal::Entry;
 use crate::original::{self, Original};
 use crate::reference;
-use crate::store::{Answer, Calls, State};
+use crate::store::{Answer, Calls, POOL_LIMIT, State};
 
 /// After how many entries the pool words are made by brute force, besides every report and the end.
 const WORDS_EVERY: usize = 4;
@@ -31,7 +30,7 @@ pub(super) struct Store {
 
 impl Store {
     pub fn call(&mut self, entry: Entry) -> Answer {
-        let answer = call(self.calls, self.state, &mut self.pool, entry);
+        let answer = self.calls.answer(self.state, &mut self.pool, entry);
         self.state = answer.state;
         answer
     }
@@ -71,7 +70,7 @@ impl Bench {
             room: Room::new(pool_words),
             opened: Opened::default(),
             original: Original::new(),
-            refused: !(1..=reference::POOL_LIMIT).contains(&pool_words),
+            refused: !(1..=POOL_LIMIT).contains(&pool_words),
             closing: false,
             before: unwritten(pool_words),
             entries: Vec::new(),

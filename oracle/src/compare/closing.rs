@@ -2,10 +2,10 @@
 
 use super::bench::{Bench, Store, unwritten};
 use super::difference::{of_answer, of_words};
-use super::guard::guarded;
 use super::words::blocks;
 use super::{Difference, Run};
 use crate::frames::{FRAME, Range};
+use crate::guard::guarded;
 use crate::journal::Entry;
 use crate::store::{Answer, Calls, JOURNAL_POOL, State};
 

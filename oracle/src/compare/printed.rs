@@ -3,9 +3,9 @@
 
 use super::Difference;
 use super::bench::Bench;
-use super::guard::guarded;
 use crate::generate::dice::Dice;
-use crate::generate::{Profile, call, record};
+use crate::generate::{Profile, record};
+use crate::guard::guarded;
 use crate::journal::{Entry, decode, encode};
 use crate::reference;
 use crate::store::{Answer, Calls, JOURNAL_POOL};
@@ -35,7 +35,7 @@ pub fn lines(calls: Calls, bytes: &[u8]) -> String {
     let mut state = (calls.fresh)(&mut pool).state;
     let mut lines = format!("pool {JOURNAL_POOL}\n");
     for (index, &entry) in entries.iter().enumerate() {
-        let answer = call(calls, state, &mut pool, entry);
+        let answer = calls.answer(state, &mut pool, entry);
         lines += &line(index + 1, entry, &answer);
         state = answer.state;
     }

@@ -1,19 +1,8 @@
 use super::*;
+use crate::journal::{acquire, release, seed};
 use std::collections::BTreeSet;
 
 const BASE: u64 = 1 << 31;
-
-fn seed(start: u64, end: u64) -> Entry {
-    Entry::Seed { start, end }
-}
-
-fn acquire(code: u8) -> Entry {
-    Entry::Acquire { code }
-}
-
-fn release(base: u64, code: u8) -> Entry {
-    Entry::Release { base, code }
-}
 
 /// Judges and applies one entry.
 fn run(store: &mut Frames, entry: Entry) -> Told {

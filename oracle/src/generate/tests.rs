@@ -1,6 +1,7 @@
 use super::room::Room;
 use super::*;
 use crate::frames::Range;
+use crate::store::State;
 use std::cell::RefCell;
 use std::collections::BTreeMap;
 

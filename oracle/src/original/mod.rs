@@ -9,14 +9,12 @@ pub mod allocator;
 pub mod page_size;
 mod stand_ins;
 
+use crate::guard::guarded;
 use crate::journal::{Entry, decode};
 use allocator::PageAllocator;
 use page_size::PageSize;
 use stand_ins::{ConfidentialMemoryAddress, Error, Page};
-use std::cell::Cell;
 use std::collections::BTreeMap;
-use std::panic::{self, AssertUnwindSafe};
-use std::sync::Once;
 
 /// What the original says to an entry.
 #[derive(Clone, Copy, Debug, PartialEq, Eq)]
@@ -133,11 +131,11 @@ impl Original {
         if self.broken {
             return Told::Panicked;
         }
-        let told = caught(|| match call(&mut self.allocator) {
+        let told = guarded(|| match call(&mut self.allocator) {
             Ok(base) => Told::Answered { refusal: 0, base },
             Err(error) => Told::Answered { refusal: refusal_of(error), base: 0 },
         });
-        self.broken = changes && told.is_none();
+        self.broken = changes && told.is_err();
         told.unwrap_or(Told::Panicked)
     }
 }
@@ -239,33 +237,11 @@ fn address(number: u64) -> ConfidentialMemoryAddress {
     ConfidentialMemoryAddress::new(number as usize)
 }
 
-thread_local! {
-    /// Whether this thread is inside the original, whose panics are answers and not printed.
-    static INSIDE: Cell<bool> = const { Cell::new(false) };
-}
-
-/// What the call gives, or none if it panics. Panics of other code print as ever, on this thread and on others.
-fn caught<T>(call: impl FnOnce() -> T) -> Option<T> {
-    static HOOK: Once = Once::new();
-    HOOK.call_once(|| {
-        let print = panic::take_hook();
-        panic::set_hook(Box::new(move |info| {
-            if !INSIDE.get() {
-                print(info);
-            }
-        }));
-    });
-    INSIDE.set(true);
-    let given = panic::catch_unwind(AssertUnwindSafe(call)).ok();
-    INSIDE.set(false);
-    given
-}
-
 #[cfg(test)]
 mod tests {
     use super::stand_ins::MemoryLayout;
     use super::*;
-    use crate::journal::encode;
+    use crate::journal::{acquire, encode, release, seed};
     use std::collections::BTreeSet;
 
     const KIB_4: u64 = 4_096;
@@ -277,18 +253,6 @@ mod tests {
     const DONE: Told = Told::Answered { refusal: 0, base: 0 };
     const TOO_MUCH: Told = Told::Answered { refusal: 3, base: 0 };
     const OUT_OF_PAGES: Told = Told::Answered { refusal: 8, base: 0 };
-
-    fn seed(start: u64, end: u64) -> Entry {
-        Entry::Seed { start, end }
-    }
-
-    fn acquire(code: u8) -> Entry {
-        Entry::Acquire { code }
-    }
-
-    fn release(base: u64, code: u8) -> Entry {
-        Entry::Release { base, code }
-    }
 
     fn page(base: u64) -> Told {
         Told::Answered { refusal: 0, base }
