@@ -12,6 +12,7 @@ use std::time::{Duration, Instant};
 const USAGE: &str = "usage:
   oracle reference < JOURNAL                   what document 01 prints
   oracle original < JOURNAL                    what the original Rust answers
+  oracle sizes < ROWS                          what the original Rust says of sizes, and of an address and an end a row
   oracle journal PROFILE NUMBER LENGTH > FILE  writes a generated journal
   oracle compare [ENTRIES [NUMBER [PROFILE]]]  compares all judges (200000 entries, numbers from 1 on, all profiles)
   oracle damage [STORES [NUMBER]]              compares two judges of soundness on damaged stores (100000)
@@ -34,8 +35,9 @@ fn main() -> ExitCode {
     let arguments: Vec<String> = std::env::args().skip(1).collect();
     let arguments: Vec<&str> = arguments.iter().map(String::as_str).collect();
     let outcome = match arguments[..] {
-        ["reference"] => read_journal().and_then(|bytes| print(reference::replay(&bytes).as_bytes())),
-        ["original"] => read_journal().and_then(|bytes| print(original::replay(&bytes).as_bytes())),
+        ["reference"] => read_input().and_then(|bytes| print(reference::replay(&bytes).as_bytes())),
+        ["original"] => read_input().and_then(|bytes| print(original::replay(&bytes).as_bytes())),
+        ["sizes"] => read_input().and_then(|bytes| print(original::sizes(&bytes).as_bytes())),
         ["journal", profile, number, length] => write_journal(profile, number, length),
         ["compare", ref rest @ ..] if rest.len() <= 3 => compare(rest),
         ["damage", ref rest @ ..] if rest.len() <= 2 => run_damage(rest),
@@ -56,9 +58,9 @@ fn usage() -> String {
     format!("{USAGE} {}", names.join(" "))
 }
 
-fn read_journal() -> Result<Vec<u8>, String> {
+fn read_input() -> Result<Vec<u8>, String> {
     let mut bytes = Vec::new();
-    stdin().read_to_end(&mut bytes).map_err(|error| format!("the journal cannot be read: {error}"))?;
+    stdin().read_to_end(&mut bytes).map_err(|error| format!("the input cannot be read: {error}"))?;
     Ok(bytes)
 }
 

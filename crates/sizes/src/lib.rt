@@ -84,7 +84,7 @@ pub fn number_of_smaller_pages(size: usize) -> usize
 }
 
 pub fn largest() -> usize
-    ensures { λ r. ⌜ r ≡ largest_of six ⌝ }
+    ensures { λ r. ⌜ (r ≡ largest_of six) × (r ≤ mostCode) ⌝ }
 {
     LARGEST
 }

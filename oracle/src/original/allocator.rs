@@ -409,8 +409,21 @@ impl PageStorageTreeNode {
     }
 }
 
-// Added for the comparison with a pool of words: the original reads neither.
+// Added for the comparison: the original uses none of these.
 impl PageAllocator {
+    /// The largest page size at an address of a region.
+    pub(super) fn largest_page_size_at(address: ConfidentialMemoryAddress, memory_region_end: usize) -> PageSize {
+        Self::find_largest_page_size(MemoryLayout::read(), PageSize::smallest(), address, memory_region_end)
+    }
+
+    /// The child of a node, and the index of the page that it would hold.
+    pub(super) fn child_of(node_base_address: usize, node_page_size: PageSize, index: usize) -> (usize, PageSize, usize) {
+        let (base_address, page_size) = PageStorageTreeNode::child_address_and_size(node_base_address, node_page_size, index);
+        let page_token = Page::init(ConfidentialMemoryAddress::new(base_address), page_size);
+        let back = PageStorageTreeNode::calculate_child_index(node_base_address, node_page_size, &page_token);
+        (base_address, page_size, back)
+    }
+
     /// How many words the opened nodes would take in a pool: one for the root, and for each node with children one more than it has.
     pub fn opened_words(&self) -> usize {
         1 + self.root.opened_words()

@@ -82,8 +82,7 @@ impl Original {
 
     /// The code of the largest page that its root offers, 0 for none.
     pub fn largest(&self) -> u64 {
-        let offered = self.allocator.max_allocable_page_size();
-        (1..=6).find(|&code| size_of(code) == offered && offered.is_some()).map_or(0, u64::from)
+        code_of(self.allocator.max_allocable_page_size())
     }
 
     /// Only a seed that the original would store is held against the earlier ones: any other it turns away by itself
@@ -138,6 +137,41 @@ impl Original {
         self.broken = changes && told.is_err();
         told.unwrap_or(Told::Panicked)
     }
+}
+
+/// What the original says of every size, of some children, and of rows of an address and an end each, little-endian.
+/// An address is page-aligned and below its end: there alone the original says what it answers.
+pub fn sizes(rows: &[u8]) -> String {
+    let mut lines = String::new();
+    for code in 1..=6 {
+        lines += &size_lines(code);
+    }
+    for row in rows.chunks_exact(16) {
+        let number = |at: usize| u64::from_le_bytes(row[at..at + 8].try_into().expect("eight bytes"));
+        let (start, end) = (number(0), number(8));
+        let size = PageAllocator::largest_page_size_at(address(start), end as usize);
+        lines += &format!("largest {start} {end} {}\n", code_of(Some(size)));
+    }
+    lines
+}
+
+/// A size by its code, with the first, the second and the last child of its second node; the largest has one node only.
+fn size_lines(code: u8) -> String {
+    let Some(size) = size_of(code) else { return String::new() };
+    let (smaller, larger, pages) = (code_of(size.smaller()), code_of(size.larger()), size.number_of_smaller_pages());
+    let mut lines = format!("size {code} {} {smaller} {larger} {pages}\n", size.in_bytes());
+    let base = if size == PageSize::largest() { 0 } else { size.in_bytes() };
+    let indices: &[usize] = if pages > 1 { &[0, 1, pages - 1] } else { &[] };
+    for &index in indices {
+        let (start, below, back) = PageAllocator::child_of(base, size, index);
+        lines += &format!("child {base} {code} {index} {start} {} {back}\n", code_of(Some(below)));
+    }
+    lines
+}
+
+/// The code of a size, 0 for none.
+fn code_of(size: Option<PageSize>) -> u64 {
+    (1..=6).find(|&code| size.is_some() && size_of(code) == size).map_or(0, u64::from)
 }
 
 fn add_region(allocator: &mut PageAllocator, start: u64, end: u64) -> Result<u64, Error> {
