@@ -14,10 +14,18 @@ mod words;
 pub use bench::Bench;
 pub use difference::{Difference, wording};
 pub use printed::{compare_printed, compare_readings, lines};
-pub use sweep::{Found, Job, Tally, plan, sweep, table};
+pub use sweep::{Found, Tally, plan, sweep, table};
 
 /// How many refusal numbers a count of them has room for, 0 for the accepted calls included.
 pub const REFUSALS: usize = 12;
+
+/// One generated journal to compare.
+#[derive(Clone, Copy, Debug, PartialEq, Eq)]
+pub struct Job {
+    pub profile: Profile,
+    pub number: u64,
+    pub length: usize,
+}
 
 /// What a journal without a difference comes to.
 #[derive(Clone, Copy, Debug, Default, PartialEq, Eq)]
@@ -52,29 +60,19 @@ pub fn compare_listed(candidate: Option<Calls>, journal: &[Entry], pool_words: u
     })
 }
 
-/// Compares all judges, and a candidate where one is given, on the journal of a profile and a number. The reference's
-/// answers tell the generator what is held.
-pub fn compare_generated(
-    candidate: Option<Calls>,
-    profile: Profile,
-    number: u64,
-    length: usize,
-) -> Result<Run, Differing> {
-    let mut generator = Generator::new(profile, number);
-    drive(candidate, generator.pool_words(), |bench| generated(bench, &mut generator, length))
+/// Compares all judges, and a candidate where one is given, on a generated journal. The reference's answers tell the
+/// generator what is held.
+pub fn compare_generated(candidate: Option<Calls>, job: Job) -> Result<Run, Differing> {
+    let mut generator = Generator::new(job.profile, job.number);
+    drive(candidate, generator.pool_words(), |bench| generated(bench, &mut generator, job.length))
 }
 
 /// The same, and the journal again on a pool that it fills to the last word, and on one that is a word shorter.
-pub fn compare_tightly(
-    candidate: Option<Calls>,
-    profile: Profile,
-    number: u64,
-    length: usize,
-) -> Result<Run, Differing> {
-    let mut generator = Generator::new(profile, number);
+pub fn compare_tightly(candidate: Option<Calls>, job: Job) -> Result<Run, Differing> {
+    let mut generator = Generator::new(job.profile, job.number);
     let mut entries = Vec::new();
     let run = drive(candidate, generator.pool_words(), |bench| {
-        let run = generated(bench, &mut generator, length)?;
+        let run = generated(bench, &mut generator, job.length)?;
         entries = bench.entries().to_vec();
         Ok(run)
     })?;

@@ -1,7 +1,7 @@
 //! The comparison finds nothing where all judges are right, and finds and shrinks what a wrong store does.
 
 use oracle::compare::{
-    Difference, compare, compare_generated, compare_readings, compare_tightly, lines, plan, sweep, table,
+    Difference, Job, compare, compare_generated, compare_readings, compare_tightly, lines, plan, sweep, table,
 };
 use oracle::generate::Profile;
 use oracle::journal::{Entry, decode, encode};
@@ -94,7 +94,7 @@ fn all_judges_agree() {
         for number in 1..=3 {
             let candidate = (number == 3).then_some(reference::CALLS);
             let run = if number == 1 { compare_tightly } else { compare_generated };
-            match run(candidate, profile, number, 150) {
+            match run(candidate, Job { profile, number, length: 150 }) {
                 Ok(run) => assert_eq!(run.entries, 150),
                 Err((difference, ..)) => panic!("{} {number}: {difference}", profile.name()),
             }
@@ -181,7 +181,8 @@ fn a_word_behind_the_used_count_is_found() {
 #[test]
 fn a_word_to_spare_is_found() {
     let wrong = Calls { acquire: acquire_with_a_word_to_spare, ..reference::CALLS };
-    let (_, entries, pool_words) = compare_tightly(Some(wrong), Profile::FewFrames, 1, 50).expect_err("found");
+    let job = Job { profile: Profile::FewFrames, number: 1, length: 50 };
+    let (_, entries, pool_words) = compare_tightly(Some(wrong), job).expect_err("found");
     let smallest = shrink(Some(wrong), &entries, pool_words, LIMIT).expect("a difference");
     assert_eq!(smallest.entries.len(), 2, "{smallest}");
 }

@@ -11,7 +11,8 @@ const GIB_2: u64 = 1 << 31;
 const TOP: u64 = 1 << 47;
 const PAGE: u64 = 4_096;
 
-/// The judges, side by side. The frames and the original know no pool: they follow what the reference accepts.
+/// The judges, side by side. Frames and original know no pool and go on where the reference refuses with 5 or 9, so
+/// nothing is asked behind such an entry that would show it.
 struct Judges {
     pool: Vec<u32>,
     state: State,
@@ -47,6 +48,10 @@ impl Judges {
             assert_eq!(self.ask(entry), expected, "{entry:?}");
         }
     }
+}
+
+fn page(base: u64) -> Told {
+    Told::Answered { refusal: 0, base }
 }
 
 fn words(refusal: u64, results: &[u64]) -> String {
@@ -102,17 +107,19 @@ fn point_4_five_before_four_and_six_before_seven() {
 }
 
 #[test]
-fn point_5_a_release_of_a_free_frame() {
+fn point_5_a_free_frame_stored_again() {
     let mut judges = Judges::new(JOURNAL_POOL);
     judges.expect(&[(seed(0, 4 * PAGE), ["0", "0", "0"]), (release(0, 1), ["7", "outside", "7"])]);
-    // The Rust takes it; at the end it deals frame 0, which the 16 KiB page still holds.
-    let mut original = Original::new();
-    let page = |base| Told::Answered { refusal: 0, base };
-    assert_eq!(original.answer(seed(0, 4 * PAGE)), page(0));
-    assert_eq!(original.forced(release(0, 1)), page(0));
-    assert_eq!(original.forced(acquire(2)), page(0));
-    assert_eq!(original.forced(release(PAGE, 1)), page(0));
-    assert_eq!(original.forced(acquire(1)), page(0));
+    judges.expect(&[(seed(0, PAGE), ["4", "outside", "4"])]);
+    // The Rust stores the frame again; at the end it deals frame 0, which the 16 KiB page still holds.
+    for again in [release(0, 1), seed(0, PAGE)] {
+        let mut original = Original::new();
+        assert_eq!(original.answer(seed(0, 4 * PAGE)), page(0));
+        assert_eq!(original.forced(again), page(0));
+        assert_eq!(original.forced(acquire(2)), page(0));
+        assert_eq!(original.forced(release(PAGE, 1)), page(0));
+        assert_eq!(original.forced(acquire(1)), page(0));
+    }
 }
 
 #[test]
@@ -139,13 +146,16 @@ fn seeds_that_the_rust_panics_at() {
 
 #[test]
 fn what_the_rust_takes_and_the_document_refuses() {
-    let taken = Told::Answered { refusal: 0, base: 0 };
-    // A region that shares a frame with an earlier one: 4.
+    // A region that shares a frame with an earlier one: 4. Here each frame is dealt once all the same.
     let mut original = Original::new();
-    assert_eq!(original.answer(seed(0, 2 * PAGE)), taken);
-    assert_eq!(original.forced(seed(PAGE, 3 * PAGE)), taken);
+    assert_eq!(original.answer(seed(0, 2 * PAGE)), page(0));
+    assert_eq!(original.forced(seed(PAGE, 3 * PAGE)), page(0));
+    for base in [0, PAGE, 2 * PAGE] {
+        assert_eq!(original.forced(acquire(1)), page(base));
+    }
+    assert_eq!(original.forced(acquire(1)), Told::Answered { refusal: 8, base: 0 });
     // A frame that was never seeded: 6.
-    assert_eq!(original.forced(release(8 * PAGE, 1)), taken);
+    assert_eq!(original.forced(release(8 * PAGE, 1)), page(0));
     // A block past the end: 3. The Rust fails an index.
     assert_eq!(original.forced(release(TOP, 1)), Told::Panicked);
     Judges::new(JOURNAL_POOL).expect(&[

@@ -1,6 +1,6 @@
 //! Many journals on two threads.
 
-use super::{Differing, REFUSALS, Run, compare_generated, compare_tightly};
+use super::{Differing, Job, REFUSALS, Run, compare_generated, compare_tightly};
 use crate::generate::Profile;
 use crate::store::Calls;
 use std::sync::atomic::{AtomicBool, AtomicUsize, Ordering};
@@ -14,14 +14,6 @@ const TIGHT_LENGTH: usize = 150;
 
 /// How many threads compare.
 const THREADS: usize = 2;
-
-/// One journal to compare.
-#[derive(Clone, Copy, Debug, PartialEq, Eq)]
-pub struct Job {
-    pub profile: Profile,
-    pub number: u64,
-    pub length: usize,
-}
 
 impl Job {
     /// Whether the journal is run again on pools that are just full. Only short ones are, to save time.
@@ -98,9 +90,9 @@ fn take_jobs(
     let mut outcomes = Vec::new();
     while !stop.load(Ordering::SeqCst) {
         let index = next.fetch_add(1, Ordering::SeqCst);
-        let Some(job) = jobs.get(index) else { break };
+        let Some(&job) = jobs.get(index) else { break };
         let compare = if job.is_tight() { compare_tightly } else { compare_generated };
-        let outcome = compare(candidate, job.profile, job.number, job.length);
+        let outcome = compare(candidate, job);
         if outcome.is_err() {
             stop.store(true, Ordering::SeqCst);
         }
