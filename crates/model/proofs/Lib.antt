@@ -1,0 +1,16 @@
+pub mod Ladder
+pub mod Lists
+pub mod Range
+pub mod Free
+pub mod Change
+pub mod Count
+pub mod Seed
+pub mod Probes
+pub mod Laws
+pub mod FrameStore
+pub mod SameFrames
+pub mod Verdict
+pub mod FrameRuns
+pub mod AnyStore
+pub mod Demands
+pub mod Cases

@@ -1,0 +1,11 @@
+pub mod Ladder
+pub mod Frames
+pub mod Calls
+pub mod FrameStore
+pub mod Lists
+pub mod Tree
+pub mod TreeStore
+pub mod Laws
+pub mod Runs
+pub mod Demands
+pub mod Cases
