@@ -1,12 +1,11 @@
 -- Demand 3 of any store whose sound states answer as the frame store does: the tree's here, the pool's above. Assumes nothing of the store but that.
 use mathlib.Core.Path.{_≡_, refl, sym, ap, _∙_, subst}
-use mathlib.Core.Logic.{_↔_, _≢_}
-use mathlib.Core.Bool.{Bool, true, false, not, true≢false, false≢true}
+use mathlib.Core.Logic.{_≢_}
+use mathlib.Core.Bool.{Bool, true, false}
 use mathlib.Core.List.{List, [], _∷_}
-use Prim.Native.Nat.{ℕ, zero, suc, pred, _+_, _*_, _-_, _≤_, _<_}
+use Prim.Native.Nat.{ℕ, zero, suc, _*_, _-_, _≤_, _<_}
 use native.Mathlib.Omega.{arith}
-use native.Mathlib.Decide.{decLt, ℕ-discrete}
-use lib.Dec.{leb, ltb, eqb}
+use native.Mathlib.Decide.{ℕ-discrete}
 use lib.ListN.{length}
 use borrow.Author.Tests.{lt-leb, le-ltb}
 use Rattle.sizes.specs.Ladder.{Ladder}
@@ -16,8 +15,9 @@ use Rattle.model.specs.FrameStore.{Frames, memory, size, lowestFree, Sam
 use Rattle.model.specs.TreeStore.{fresh, step}
 use Rattle.model.specs.Runs.{Run, reckon, start, next, run, reseed, Roomy}
 use Rattle.model.specs.Demands.{shown}
+use Rattle.model.proofs.Frames.{bit-zero, bit-one}
 use Rattle.model.proofs.FrameStore.{bare-iff}
-use Rattle.model.proofs.FrameRuns.{bit-zero, bit-one, dealable, Split, free-unheld, split-act}
+use Rattle.model.proofs.FrameRuns.{dealable, Split, free-unheld, split-act}
 
 never : _≡_ {A = ℕ} 0 1 → ⊥
 never e = omega arith

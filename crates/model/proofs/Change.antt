@@ -1,14 +1,14 @@
 -- What a take and a store do to the free frames, and that they keep the tree sound.
-use mathlib.Core.Path.{_≡_, refl, sym, ap, _∙_, subst}
-use mathlib.Core.Logic.{_⊎_, inl, inr, ⊎-elim, _≢_}
+use mathlib.Core.Path.{_≡_, refl, sym, _∙_}
+use mathlib.Core.Logic.{_⊎_, inl, inr, _≢_}
 use mathlib.Core.Bool.{Bool, true, false, true≢false, false≢true}
 use mathlib.Core.List.{List, [], _∷_, map}
-use Prim.Native.Nat.{ℕ, zero, suc, _+_, _*_, _-_, _/_, _%_, _≤_, _<_, zero-le}
+use Prim.Native.Nat.{ℕ, zero, suc, _/_, _%_, _≤_, _<_, zero-le}
 use native.Mathlib.Omega.{arith}
 use native.Mathlib.Decide.{decLt, ℕ-discrete}
-use native.Mathlib.Nat.{mod-lt, div-lt-iff-lt-mul, not-suc-le-zero, le-of-suc-le-suc}
+use native.Mathlib.Nat.{div-lt-iff-lt-mul}
 use lib.Dec.{ltb}
-use lib.ListN.{length, getD, set, replicate, length-set, length-map, length-replicate, List·getD-eq-default}
+use lib.ListN.{length, set, length-set, length-map, length-replicate, List·getD-eq-default}
 use lib.Seq.{getD-set-same, getD-set-other}
 use borrow.Author.Tests.{ltb-true, ltb-false}
 use Rattle.sizes.specs.Ladder.{Ladder}
@@ -18,31 +18,10 @@ use Rattle.model.specs.Lists.{maximum, all}
 use Rattle.model.specs.Tree.{node, Tree, token, empty, mark, child, largest, merge, free, SoundNode, Sound, opened, handedOn, store, remove}
 use Rattle.model.specs.Laws.{BlockIn}
 use Rattle.model.proofs.Ladder.{fan-pos, frames-pos, frames-dvd}
-use Rattle.model.proofs.Lists.{maximum-zero, all-true, all-false, getD-rep}
 use Rattle.model.proofs.Range.{low-aligned, low-fits, changed-node, block-in}
+use Rattle.model.proofs.Frames.{changed-whole, changed-agree}
+use Rattle.model.proofs.Lists.{maximum-zero, all-true, all-false, getD-rep, getD-map-lt}
 use Rattle.model.proofs.Free.{largest-empty, largest-child, token-free, quiet-free, not-full, frames-le, none-quiet}
-
--- a change of a whole node
-pub changed-whole : (g g' : ℕ → Bool) (N b s : ℕ) (v : Bool) → b + s ≤ N → N ≤ s → ((f : ℕ) → g' f ≡ v) → Changed g g' N b s v
-changed-whole g g' N b s v h k e = record {
-  inside = λ f p q. e f;
-  below = λ f p. absurd (omega arith);
-  above = λ f p q. absurd (omega arith);
-}
-
--- the same change, of functions that agree below N
-pub changed-agree : (g g' h h' : ℕ → Bool) (N b s : ℕ) (v : Bool) → b + s ≤ N → ((f : ℕ) → f < N → h f ≡ g f) → ((f : ℕ) → f < N → h' f ≡ g' f) → Changed g g' N b s v → Changed h h' N b s v
-changed-agree g g' h h' N b s v l e e' c = record {
-  inside = λ f p q. e' f (omega arith) ∙ c .inside f p q;
-  below = λ f p. e' f (omega arith) ∙ c .below f p ∙ sym (e f (omega arith));
-  above = λ f p q. e' f q ∙ c .above f p q ∙ sym (e f q);
-}
-
--- a list's map, at a place in it
-pub getD-map-lt : {A : Type 0} (f : A → A) (xs : List A) (i : ℕ) (z : A) → i < length xs → getD (map f xs) i z ≡ f (getD xs i z)
-getD-map-lt f [] i z h = absurd (not-suc-le-zero h)
-getD-map-lt f (x ∷ xs) zero z h = refl
-getD-map-lt f (x ∷ xs) (suc i) z h = getD-map-lt f xs i z (le-of-suc-le-suc h)
 
 pub token-mark : (d : ℕ) (v : Bool) (t : Tree d) → token d (mark d v t) ≡ v
 token-mark zero v t = refl
@@ -175,7 +154,7 @@ module _ (L : Ladder) where
       let x = not-full L (suc d) (node false ks) s refl in
       absurd (false≢true (sym (x .2) ∙ h (x .0) (omega (arith, p .fits, frames-le L (suc d) d' l)) (omega (arith, x .1, frames-le L (suc d) d' l))))
 
-  -- (3) a take of a wholly free block: its frames are free no more, all else stays, and the tree stays sound
+  -- a take of a wholly free block: its frames are free no more, all else stays, and the tree stays sound
   pub remove-done : (d d' : ℕ) (t : Tree d) (b : ℕ) → Sound L d t → BlockIn L d d' b → Wholly (free L d t) b (frames L d') true → Makes d d' false t b (remove L d d' t b)
   unfolding remove free
   remove-done zero d' t b s p h = (changed-whole (free L 0 t) (free L 0 false) (frames L 0) b (frames L d') false (p .fits) (frames-le L 0 d' zero-le) (λ f. refl), tt)
@@ -265,7 +244,7 @@ module _ (L : Ladder) where
           quiet i (yes h) = rw (at i (omega arith)) (unmark-quiet d (child d ks i) (s i) (toks i (omega arith)))
           quiet i (no h) = rw (past i h) (largest-empty d)
 
-  -- (4) a store of a block none of whose frames is free: its frames are free, all else stays, and the tree stays sound
+  -- a store of a block none of whose frames is free: its frames are free, all else stays, and the tree stays sound
   pub store-done : (d d' : ℕ) (t : Tree d) (b : ℕ) → Sound L d t → BlockIn L d d' b → Wholly (free L d t) b (frames L d') false → Makes d d' true t b (store L d d' t b)
   unfolding store free largest handedOn
   store-done zero d' t b s p h = (changed-whole (free L 0 t) (free L 0 true) (frames L 0) b (frames L d') true (p .fits) (frames-le L 0 d' zero-le) (λ f. refl), tt)

@@ -1,50 +1,23 @@
 -- Demand 3 of the frame store: what its accepted calls keep. No tree is known here. Assumes nothing.
-use mathlib.Core.Path.{_≡_, refl, sym, ap, _∙_}
-use mathlib.Core.Logic.{_↔_, _≢_}
-use mathlib.Core.Bool.{Bool, true, false, not}
-use mathlib.Core.List.{List, [], _∷_}
-use Prim.Native.Nat.{ℕ, zero, suc, pred, _+_, _*_, _-_, _/_, _%_, _≤_, _<_}
+use mathlib.Core.Path.{_≡_, ap, _∙_}
+use mathlib.Core.Bool.{Bool, true, false}
+use Prim.Native.Nat.{ℕ, suc, pred, _+_, _*_, _-_, _%_, _≤_, _<_}
 use native.Mathlib.Omega.{arith}
-use native.Mathlib.Decide.{decLt}
 use native.Mathlib.Nat.{mul-le-mul-right, div-add-mod'}
-use lib.Dec.{leb, ltb, eqb}
+use lib.Dec.{eqb}
 use lib.ListN.{length}
 use borrow.Author.Tests.{ltb-false, leb-false, eqb-false, eqb-true, not-false}
 use Rattle.sizes.specs.Ladder.{Ladder}
 use Rattle.model.specs.Ladder.{top}
-use Rattle.model.specs.Frames.{Wholly, Changed, paint, bit}
+use Rattle.model.specs.Frames.{Wholly, paint, bit}
 use Rattle.model.specs.Calls.{seeded, Call, seed, acquire, release, report, verdict}
 use Rattle.model.specs.FrameStore.{whole, bare, Frames, memory, size, blocks, lowestFree, frameAct, refusals}
 use Rattle.model.specs.Runs.{reckon}
 use Rattle.model.proofs.Range.{fits}
+use Rattle.model.proofs.Frames.{changed-id, painted, bit-le, bit-zero, bit-one, Adds, adds-changed}
 use Rattle.model.proofs.Free.{frames-le}
-use Rattle.model.proofs.Count.{bit-le}
-use Rattle.model.proofs.Seed.{changed-id, painted}
 use Rattle.model.proofs.FrameStore.{whole-iff, bare-iff, firstBelow-first}
 use Rattle.model.proofs.Verdict.{clear}
-
--- bits that are 0 or 1 are false or true
-pub bit-zero : (v : Bool) → bit v ≡ 0 → v ≡ false
-bit-zero true e = absurd (omega arith)
-bit-zero false e = refl
-
-pub bit-one : (v : Bool) → bit v ≡ 1 → v ≡ true
-bit-one true e = refl
-bit-one false e = absurd (omega arith)
-
--- at each frame below N the bits of seeded S are those of free F and held H together
-abbrev pub Adds : (S F H : ℕ → Bool) → ℕ → Type 0
-Adds S F H N = (f : ℕ) → f < N → bit (S f) ≡ bit (F f) + bit (H f)
-
--- a change of all three at one block keeps that, if the new values add up
-adds-changed : (S F H S' F' H' : ℕ → Bool) (N b s : ℕ) (x y z : Bool) → bit x ≡ bit y + bit z → b + s ≤ N
-    → Changed S S' N b s x → Changed F F' N b s y → Changed H H' N b s z → Adds S F H N → Adds S' F' H' N
-adds-changed S F H S' F' H' N b s x y z e l p q r k f h = go (decLt f b) (decLt f (b + s))
-  where
-    go : Dec (f < b) → Dec (f < b + s) → bit (S' f) ≡ bit (F' f) + bit (H' f)
-    go (yes u) w = omega (arith, k f h, ap bit (p .below f u), ap bit (q .below f u), ap bit (r .below f u))
-    go (no u) (yes w) = omega (arith, ap bit (p .inside f (omega arith) w), ap bit (q .inside f (omega arith) w), ap bit (r .inside f (omega arith) w))
-    go (no u) (no w) = omega (arith, k f h, ap bit (p .above f (omega arith) h), ap bit (q .above f (omega arith) h), ap bit (r .above f (omega arith) h))
 
 -- what the tests of a call that is not refused say of a block of s frames at b, below N
 module _ (L : Ladder) (most : ℕ) (g : Frames) where

@@ -14,7 +14,6 @@ use Rattle.model.specs.Frames.{Wholly, Lowest}
 use Rattle.model.specs.FrameStore.{allBelow, firstBelow, whole, bare, memory, blocks, lowestFree}
 use Rattle.model.proofs.Ladder.{frames-pos}
 use Rattle.model.proofs.Free.{frames-mod}
-use Rattle.model.proofs.Cases.{deep}
 
 -- two tests that pass together are one
 pub same-test : (x y : Bool) → (x ≡ true → y ≡ true) → (y ≡ true → x ≡ true) → x ≡ y

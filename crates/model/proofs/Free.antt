@@ -2,21 +2,20 @@
 use mathlib.Core.Path.{_≡_, refl, sym, ap, _∙_}
 use mathlib.Core.Logic.{_⊎_, ⊎-elim, _↔_}
 use mathlib.Core.Bool.{Bool, true, false, true≢false, false≢true}
-use mathlib.Core.List.{List, [], _∷_}
+use mathlib.Core.List.{List}
 use Prim.Native.Nat.{ℕ, zero, suc, _+_, _*_, _-_, _/_, _%_, _≤_, _<_, zero-le}
 use native.Mathlib.Omega.{arith}
 use native.Mathlib.Decide.{decLt}
-use native.Mathlib.Nat.{div-add-mod', mod-lt, mul-le-mul-right, mod-self, zero-mod, mod-eq-zero-of-dvd, dvd-add, dvd-mul-left-of-dvd, dvd-of-mod-eq-zero, div-lt-iff-lt-mul}
+use native.Mathlib.Nat.{div-add-mod', mul-le-mul-right, zero-mod, mod-eq-zero-of-dvd, dvd-add, dvd-mul-left-of-dvd, dvd-of-mod-eq-zero}
 use lib.Dec.{leb}
-use lib.ListN.{length}
 use Rattle.sizes.specs.Ladder.{Ladder}
 use Rattle.model.specs.Ladder.{fan, frames}
 use Rattle.model.specs.Frames.{Wholly, Lowest}
 use Rattle.model.specs.Lists.{maximum, first}
 use Rattle.model.specs.Tree.{node, Tree, token, empty, child, largest, free, Sound, pick}
 use Rattle.model.proofs.Ladder.{frames-pos, frames-dvd}
-use Rattle.model.proofs.Lists.{maximum-getD, maximum-le, First, first-first}
 use Rattle.model.proofs.Range.{fits, child-no, child-at, low-aligned, low-fits, block-in}
+use Rattle.model.proofs.Lists.{maximum-getD, maximum-le, First, first-first}
 
 -- the code of a block is at most the node's own
 pub largest-le : (d : ℕ) (t : Tree d) → largest d t ≤ suc d
@@ -77,7 +76,7 @@ module _ (L : Ladder) where
         rw (child-no (frames L d) f i (r .0) refl (r .1), child-at (frames L d) f i (r .0) refl (r .1)) (r .2),
       )
 
-  -- (1, hard half) a wholly free aligned block is covered by one token at or above it
+  -- a wholly free aligned block is covered by one token at or above it
   pub block-largest : (d d' : ℕ) (t : Tree d) (b : ℕ) → Sound L d t → d' ≤ d → b % frames L d' ≡ 0 → b + frames L d' ≤ frames L d → Wholly (free L d t) b (frames L d') true → suc d' ≤ largest d t
   unfolding free largest
   block-largest zero d' true b s l al r h = omega arith
@@ -102,7 +101,7 @@ module _ (L : Ladder) where
   pub frames-le : (d' d : ℕ) → d' ≤ d → frames L d' ≤ frames L d
   frames-le d' d h = omega (arith, fits (frames L d') 0 (frames L d) (zero-mod (frames L d')) (frames-mod d' d h) (frames-pos L d))
 
-  -- (2, and the easy half of 1) what `pick` gives is the lowest wholly free aligned block
+  -- what `pick` gives is the lowest wholly free aligned block
   pub pick-lowest : (d d' : ℕ) (t : Tree d) → Sound L d t → suc d' ≤ largest d t → Lowest (free L d t) (frames L d) (frames L d') (pick L d d' t)
   unfolding free largest pick frames
   pick-lowest zero d' true s h =
@@ -151,14 +150,6 @@ module _ (L : Ladder) where
           order c k o (no x) (no y) =
               let e : c / n ≡ i = omega arith in
               omega (arith, ap (λ (j : ℕ). j * n) e, ap (λ (j : ℕ). pick L d d' (child d ks j)) e, div-add-mod' c n)
-
-  -- (1) there is a wholly free aligned block of depth d' exactly if largest says so
-  pub block-iff : (d d' : ℕ) (t : Tree d) → Sound L d t → d' ≤ d
-      → (suc d' ≤ largest d t) ↔ ((b : ℕ) × (b % frames L d' ≡ 0) × (b + frames L d' ≤ frames L d) × Wholly (free L d t) b (frames L d') true)
-  block-iff d d' t s l = (
-    λ h. let q = pick-lowest d d' t s h in (pick L d d' t, q .aligned, q .fits, q .whole),
-    λ x. block-largest d d' t (x .0) s l (x .1) (x .2) (x .3),
-  )
 
   -- a sound node none of whose frames is free offers nothing
   pub none-quiet : (d : ℕ) (t : Tree d) → Sound L d t → ((f : ℕ) → f < frames L d → free L d t f ≡ false) → largest d t ≡ 0

@@ -1,11 +1,10 @@
 -- Facts of any ladder, by the number of sizes below a node's own. Assumes nothing.
-use mathlib.Core.Path.{_≡_, refl, sym, ap, _∙_}
-use Prim.Native.Nat.{ℕ, zero, suc, _+_, _*_, _-_, _/_, _%_, _≤_, _<_, _∣_, zero-le}
+use Prim.Native.Nat.{ℕ, zero, suc, _≤_, _<_, _∣_}
 use native.Mathlib.Omega.{arith}
-use native.Mathlib.Nat.{mul-pos, dvd-refl, dvd-mul-left-of-dvd, mod-eq-zero-of-dvd, zero-mod, le-of-dvd}
+use native.Mathlib.Nat.{mul-pos, dvd-refl, dvd-mul-left-of-dvd}
 use native.Mathlib.Decide.{le-ind}
-use Rattle.sizes.specs.Ladder.{Ladder, fanOut}
-use Rattle.model.specs.Ladder.{fan, frames, top}
+use Rattle.sizes.specs.Ladder.{Ladder}
+use Rattle.model.specs.Ladder.{fan, frames}
 
 module _ (L : Ladder) where
   pub fan-two : (d : ℕ) → 2 ≤ fan L d

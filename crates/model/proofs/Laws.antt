@@ -1,24 +1,26 @@
 -- The laws of `specs/Laws`, gathered. Assumes nothing.
 use mathlib.Core.Path.{_≡_, refl, sym, ap, _∙_}
-use mathlib.Core.Logic.{_↔_}
-use mathlib.Core.Bool.{Bool, true, false, true≢false, false≢true}
+use mathlib.Core.Bool.{Bool, true, false, true≢false}
 use mathlib.Core.List.{List, [], _∷_}
 use Prim.Native.Nat.{ℕ, zero, suc, pred, _+_, _*_, _-_, _≤_, _<_, max}
 use native.Mathlib.Omega.{arith}
 use native.Mathlib.Decide.{decLt}
 use native.Mathlib.Nat.{mul-assoc}
 use Rattle.sizes.specs.Ladder.{Ladder, smallest, largest as largest-code, bytes, fanOut}
-use Rattle.sizes.specs.Laws.{MultipliesUp, IsCode}
+use Rattle.sizes.specs.Laws.{MultipliesUp}
 use Rattle.model.specs.Ladder.{fan, frames, top}
 use Rattle.model.specs.Frames.{Wholly, Changed, paint}
 use Rattle.model.specs.Calls.{Region, seeded, Regions}
 use Rattle.model.specs.Tree.{Tree, largest, free, freeFrames, Sound, pick}
 use Rattle.model.specs.TreeStore.{anyFree, seedFrom}
-use Rattle.model.specs.Laws.{RegionLaws, Straddles, OfTables, BlockIn, Alike, TreeLaws, SeedLaws}
+use Rattle.model.specs.Laws.{RegionLaws, Straddles, OfTables, ProbeLaws, BlockIn, Alike, TreeLaws, SeedLaws}
+use Rattle.model.proofs.Frames.{changed-append, changed-same, within-in, within-below, within-above, count-stored}
 use Rattle.model.proofs.Free.{largest-le, lowest-same, block-largest, pick-lowest}
 use Rattle.model.proofs.Change.{remove-done, store-done}
-use Rattle.model.proofs.Count.{count-stored, freeFrames-count, stored-frames, taken-frames}
-use Rattle.model.proofs.Seed.{changed-append, within-in, within-below, within-above, apart-iff, covered-iff, seed-done, anyFree-false, anyFree-true}
+use Rattle.model.proofs.Count.{freeFrames-count, stored-frames, taken-frames}
+use Rattle.model.proofs.Regions.{apart-iff, covered-iff}
+use Rattle.model.proofs.Seed.{seed-done, anyFree-false, anyFree-true}
+use Rattle.model.proofs.Probes.{probes-own, probes-fans}
 
 pub region-laws : (N : ℕ) (rs : List Region) → Regions N rs → RegionLaws rs
 region-laws N rs k = record { apart-is = λ a e l. apart-iff N a e rs k l; covered-is = λ b s. covered-iff N b s rs k }
@@ -39,15 +41,6 @@ straddles a m e b s l k p q = covered-iff e b s (record { start = m; end = e } �
   (record { some = l; ends = omega arith; alone = λ f x y. refl }, tt),
 ) .1 (λ f x y. touch a m e f (omega arith) (omega arith))
 
--- two trees made alike from one are alike
-changed-same : (g x y : ℕ → Bool) (N b s : ℕ) (v : Bool) → Changed g x N b s v → Changed g y N b s v → (f : ℕ) → f < N → x f ≡ y f
-changed-same g x y N b s v c k f l = go (decLt f b) (decLt f (b + s))
-  where
-    go : Dec (f < b) → Dec (f < b + s) → x f ≡ y f
-    go (yes p) q = c .below f p ∙ sym (k .below f p)
-    go (no p) (yes q) = c .inside f (omega arith) q ∙ sym (k .inside f (omega arith) q)
-    go (no p) (no q) = c .above f (omega arith) l ∙ sym (k .above f (omega arith) l)
-
 module _ (L : Ladder) where
   -- frames by the fan-outs, at every code
   size-is : MultipliesUp L → (d : ℕ) → suc d ≤ largest-code L → frames L d * bytes L smallest ≡ bytes L (suc d)
@@ -57,6 +50,9 @@ module _ (L : Ladder) where
       let w = m .wide (suc d) (omega arith) k in
       let z : max 2 (fanOut L (suc (suc d))) ≡ fanOut L (suc (suc d)) = omega arith in
       rw z (mul-assoc (fanOut L (suc (suc d))) (frames L d) (bytes L smallest) ∙ ap (λ (n : ℕ). fanOut L (suc (suc d)) * n) (size-is m d (omega arith)) ∙ sym (m .multiply (suc d) (omega arith) k))
+
+  pub probe-laws : ProbeLaws L
+  probe-laws = record { bounded = probes-fans L; none = probes-own L }
 
   pub of-tables : MultipliesUp L → OfTables L
   unfolding fan
@@ -121,4 +117,4 @@ module _ (L : Ladder) where
           let z : a + (m - a) ≡ m = omega arith in
           let y = seed-makes mid m e (x .1) q k (λ f u v. x .0 .above f (omega arith) (omega arith) ∙ h f (omega arith) (omega arith)) in
           let both = changed-append g (free L (top L) mid) (free L (top L) end) N a (m - a) (e - m) (e - a) true (omega arith) (omega arith) (x .0) (rw z (y .0)) in
-          record { frames = changed-same g (free L (top L) (seedFrom L (e - a) t a e)) (free L (top L) end) N a (e - a) true (seed-makes t a e s l k h .0) both; sound = y .1 }
+          record { frames = changed-same g (free L (top L) (seedFrom L (e - a) t a e)) g (free L (top L) end) N a (e - a) true (seed-makes t a e s l k h .0) both (λ f w. refl); sound = y .1 }

@@ -1,14 +1,13 @@
 -- Facts on maximum, all, first, by the elements' places.
-use mathlib.Core.Path.{_≡_, refl, sym, ap, _∙_}
-use mathlib.Core.Bool.{Bool, true, false, _&&_, and-eq-true-iff, true≢false, false≢true}
+use mathlib.Core.Path.{_≡_, refl}
+use mathlib.Core.Bool.{Bool, true, false, and-eq-true-iff, true≢false}
 use mathlib.Core.List.{List, [], _∷_, map}
-use Prim.Native.Nat.{ℕ, zero, suc, _+_, _≤_, _<_, max, zero-le}
+use Prim.Native.Nat.{ℕ, zero, suc, _≤_, _<_, zero-le}
 use native.Mathlib.Omega.{arith}
 use native.Mathlib.Nat.{not-suc-le-zero, le-of-suc-le-suc}
 use lib.Dec.{leb}
 use borrow.Author.Tests.{leb-true, leb-false}
 use lib.ListN.{length, getD, replicate}
-use Rattle.sizes.specs.Ladder.{Ladder}
 use Rattle.model.specs.Lists.{maximum, all, first}
 
 module _ {A : Type 0} where
@@ -69,3 +68,9 @@ module _ {A : Type 0} where
   getD-rep zero i a = refl
   getD-rep (suc n) zero a = refl
   getD-rep (suc n) (suc i) a = getD-rep n i a
+
+-- a list's map, at a place in it
+pub getD-map-lt : {A : Type 0} (f : A → A) (xs : List A) (i : ℕ) (z : A) → i < length xs → getD (map f xs) i z ≡ f (getD xs i z)
+getD-map-lt f [] i z h = absurd (not-suc-le-zero h)
+getD-map-lt f (x ∷ xs) zero z h = refl
+getD-map-lt f (x ∷ xs) (suc i) z h = getD-map-lt f xs i z (le-of-suc-le-suc h)

@@ -9,6 +9,7 @@ use borrow.Author.Tests.{ltb-true, ltb-false, le-ltb}
 use Rattle.sizes.specs.Ladder.{Ladder, largest, fanOut}
 use Rattle.sizes.specs.Six.{six}
 use Rattle.model.specs.Ladder.{fan, frames, top, probes, fans}
+use Rattle.model.specs.Laws.{SixProbes}
 use Rattle.model.proofs.Ladder.{frames-pos}
 use Rattle.model.proofs.Change.{child-lt}
 
@@ -46,5 +47,5 @@ unfolding fans fan top largest fanOut
 fans-six = refl
 
 -- no probe count of the six sizes is higher
-pub probes-six : (d' b : ℕ) → b < frames six (top six) → probes six (top six) d' b ≤ 1412
+pub probes-six : SixProbes
 probes-six d' b h = omega (arith, probes-fans six (top six) d' b h, fans-antitone six (top six) 0 d' zero-le, fans-six)

@@ -1,13 +1,12 @@
 -- Frames of an aligned block: which child holds it, and where in the child it lies. Arithmetic only.
 -- Assumes nothing.
-use mathlib.Core.Path.{_≡_, refl, sym, ap, _∙_, subst}
+use mathlib.Core.Path.{_≡_, refl, ap, _∙_}
 use mathlib.Core.Logic.{_≢_}
-use mathlib.Core.Bool.{Bool, true, false}
-use Prim.Native.Nat.{ℕ, zero, suc, _+_, _*_, _-_, _/_, _%_, _≤_, _<_, _∣_, zero-le, suc-le-suc}
+use mathlib.Core.Bool.{Bool}
+use Prim.Native.Nat.{ℕ, _+_, _*_, _-_, _/_, _%_, _≤_, _<_, _∣_}
 use native.Mathlib.Omega.{arith}
 use native.Mathlib.Decide.{ℕ-discrete}
-use native.Mathlib.Nat.{mul-pos, dvd-refl, div-add-mod', mod-lt, mod-mod-of-dvd, mod-eq-zero-of-dvd, mul-le-mul-right, lt-of-mul-lt-mul-right, div-eq-of-lt-le}
-use native.Mathlib.Numerals.{add-one}
+use native.Mathlib.Nat.{div-add-mod', mod-lt, mod-mod-of-dvd, mod-eq-zero-of-dvd, mul-le-mul-right, lt-of-mul-lt-mul-right, div-eq-of-lt-le}
 use Rattle.model.specs.Frames.{Wholly, Changed}
 
 -- an aligned block that starts below a multiple of its size ends at or below it
@@ -23,7 +22,7 @@ child-no n f i r e h = div-eq-of-lt-le n (omega arith) (omega arith)
 pub child-at : (n f i r : ℕ) → f ≡ i * n + r → r < n → f % n ≡ r
 child-at n f i r e h = omega (arith, div-add-mod' f n, ap (λ (j : ℕ). j * n) (child-no n f i r e h))
 
--- the parts of a frame number, as facts for omega
+-- the parts of a frame number
 module _ (n s b : ℕ) (pos : 0 < n) (sn : s ∣ n) (al : b % s ≡ 0) where
   -- the block's place in its child is aligned, and the block ends in the child
   pub low-aligned : b % n % s ≡ 0

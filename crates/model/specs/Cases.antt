@@ -1,4 +1,4 @@
--- Document 01's journal on the tree of the six sizes, in frame numbers: frame 524288 is address 2147483648. A check of the definitions by example.
+-- Short journals on the tree of the six sizes, computed: a check of the definitions by example. Frame 524288 is address 2147483648.
 use mathlib.Core.Path.{_≡_}
 use mathlib.Core.List.{List, [], _∷_}
 use Prim.Native.Nat.{ℕ}
@@ -10,24 +10,45 @@ use Rattle.model.specs.TreeStore.{State, used, fresh, step}
 pub data Line : Type 0 where
   line : Answer → (used : ℕ) → Line
 
--- the lines of a journal, for a store of one region and a pool of n words
-unfoldable pub lines : (n : ℕ) → List Call → State six → List Line
-lines n [] s = []
-lines n (c ∷ cs) s = let o = step six 1 n s c in line (o .answer) (used six (o .state .tree)) ∷ lines n cs (o .state)
+-- the lines of a journal, for a store of at most two regions and a pool of n words
+unfoldable pub linesFrom : (n : ℕ) → List Call → State six → List Line
+linesFrom n [] s = []
+linesFrom n (c ∷ cs) s = let o = step six 2 n s c in line (o .answer) (used six (o .state .tree)) ∷ linesFrom n cs (o .state)
 
--- P6, P7 and the rest of the journal
+abbrev pub lines : (n : ℕ) → List Call → List Line
+lines n cs = linesFrom n cs (fresh six)
+
+-- document 01's journal (P6, P7)
 abbrev pub Journal : Type 0
-Journal = lines 16384 (seed 524288 524294 ∷ acquire 1 ∷ acquire 2 ∷ acquire 1 ∷ release 524288 1 ∷ release 524288 1 ∷ report ∷ []) (fresh six)
+Journal = lines 16384 (seed 524288 524294 ∷ acquire 1 ∷ acquire 2 ∷ acquire 1 ∷ release 524288 1 ∷ release 524288 1 ∷ report ∷ [])
     ≡ line stored 1418 ∷ line (dealt 524288 7) 1423 ∷ line (refused 8) 1423 ∷ line (dealt 524289 8) 1423 ∷ line stored 1423 ∷ line (refused 7) 1423 ∷ line (reported 6 5 1) 1423 ∷ []
 
--- P9: a pool one word short, and one that just fits
+-- all of memory, its first frame dealt and given back: every level is opened and merged again, and nothing stays offered below the page then dealt
+abbrev pub Cascade : Type 0
+Cascade = lines 16384 (seed 0 34359738368 ∷ acquire 1 ∷ release 0 1 ∷ acquire 6 ∷ acquire 1 ∷ [])
+    ≡ line stored 1 ∷ line (dealt 0 5) 1418 ∷ line stored 1418 ∷ line (dealt 0 0) 1418 ∷ line (refused 8) 1418 ∷ []
+
+-- a single frame before a larger block: the lowest is dealt, not the one in the child that offers most
+abbrev pub Lowest : Type 0
+Lowest = lines 16384 (seed 524291 524296 ∷ acquire 1 ∷ []) ≡ line stored 1418 ∷ line (dealt 524291 10) 1418 ∷ []
+
+-- a frame inside a free page, and a page one of whose frames is free, are not taken back
+abbrev pub Inside : Type 0
+Inside = lines 16384 (seed 524288 524292 ∷ release 524289 1 ∷ acquire 1 ∷ release 524288 2 ∷ [])
+    ≡ line stored 1413 ∷ line (refused 7) 1413 ∷ line (dealt 524288 7) 1418 ∷ line (refused 7) 1418 ∷ []
+
+-- touching regions merge, and a page that straddles them is taken back
+abbrev pub Touching : Type 0
+Touching = lines 16384 (seed 524288 524290 ∷ seed 524290 524292 ∷ acquire 2 ∷ release 524288 2 ∷ [])
+    ≡ line stored 1418 ∷ line stored 1418 ∷ line (dealt 524288 6) 1418 ∷ line stored 1418 ∷ []
+
+-- the last frame alone (P10)
+abbrev pub LastFrame : Type 0
+LastFrame = lines 16384 (seed 34359738367 34359738368 ∷ acquire 1 ∷ []) ≡ line stored 1418 ∷ line (dealt 34359738367 1412) 1418 ∷ []
+
+-- a pool one word short, and one that just fits (P9)
 abbrev pub TooShort : Type 0
-TooShort = lines 1412 (seed 524288 524292 ∷ []) (fresh six) ≡ line (refused 9) 1 ∷ []
+TooShort = lines 1412 (seed 524288 524292 ∷ acquire 1 ∷ []) ≡ line (refused 9) 1 ∷ line (refused 8) 1 ∷ []
 
 abbrev pub JustFits : Type 0
-JustFits = lines 1413 (seed 524288 524292 ∷ []) (fresh six) ≡ line stored 1413 ∷ []
-
--- all of memory, its first frame dealt and given back: every level is opened, and merged again
-abbrev pub Deep : Type 0
-Deep = lines 16384 (seed 0 34359738368 ∷ acquire 1 ∷ release 0 1 ∷ acquire 6 ∷ []) (fresh six)
-    ≡ line stored 1 ∷ line (dealt 0 5) 1418 ∷ line stored 1418 ∷ line (dealt 0 0) 1418 ∷ []
+JustFits = lines 1413 (seed 524288 524292 ∷ acquire 1 ∷ acquire 2 ∷ []) ≡ line stored 1413 ∷ line (refused 9) 1413 ∷ line (dealt 524288 6) 1413 ∷ []

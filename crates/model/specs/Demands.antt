@@ -1,14 +1,14 @@
 -- Demands 2 and 3 on trees: the statements. `proofs/` proves them for any ladder, any most number of regions and any pool.
 use mathlib.Core.Path.{_≡_}
 use mathlib.Core.Logic.{_↔_, _≢_}
-use mathlib.Core.Bool.{Bool, true, false}
+use mathlib.Core.Bool.{true, false}
 use mathlib.Core.List.{List}
 use Prim.Native.Nat.{ℕ, pred, _+_, _≤_, _<_}
 use lib.ListN.{length}
 use Rattle.sizes.specs.Ladder.{Ladder}
 use Rattle.model.specs.Ladder.{frames, top}
 use Rattle.model.specs.Frames.{Wholly, bit, count}
-use Rattle.model.specs.Calls.{Region, Regions, seeded, Call, acquire, Answer, refused, dealt, verdict}
+use Rattle.model.specs.Calls.{Regions, seeded, Call, acquire, refused, dealt, verdict}
 use Rattle.model.specs.FrameStore.{Frames, Same, refusals, frameStep}
 use Rattle.model.specs.Tree.{Sound, free, freeFrames}
 use Rattle.model.specs.TreeStore.{State, fresh, used, seededFrames, act, step}

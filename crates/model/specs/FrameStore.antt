@@ -9,7 +9,7 @@ use lib.ListN.{length}
 use Rattle.sizes.specs.Ladder.{Ladder}
 use Rattle.model.specs.Ladder.{frames, top, probes}
 use Rattle.model.specs.Frames.{paint, count}
-use Rattle.model.specs.Calls.{Region, seeded, Call, seed, acquire, release, report, Answer, refused, stored, dealt, reported, Test, refuse, verdict, Outcome, settle}
+use Rattle.model.specs.Calls.{Region, seeded, Call, seed, acquire, release, report, stored, dealt, reported, Test, refuse, verdict, Outcome, settle}
 
 -- every number below n passes
 unfoldable pub allBelow : (ℕ → Bool) → ℕ → Bool

@@ -1,7 +1,7 @@
 -- Four answers about a list, by a value of each element.
 use mathlib.Core.Bool.{Bool, true, _&&_, cond}
 use mathlib.Core.List.{List, [], _∷_}
-use Prim.Native.Nat.{ℕ, zero, suc, _+_, max}
+use Prim.Native.Nat.{ℕ, suc, _+_, max}
 
 unfoldable pub maximum : {A : Type 0} → (A → ℕ) → List A → ℕ
 maximum g [] = 0

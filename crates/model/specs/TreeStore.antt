@@ -1,15 +1,14 @@
 -- The store on a tree: seed, acquire, release and report, each with its refusals in order, for a pool of n words and a given most number of regions.
-use mathlib.Core.Bool.{Bool, true, false, _&&_, not, cond}
+use mathlib.Core.Bool.{Bool, true, false, _&&_, not}
 use mathlib.Core.List.{List, [], _∷_}
-use Prim.Native.Nat.{ℕ, zero, suc, pred, _+_, _*_, _-_, _/_, _%_, max, min}
+use Prim.Native.Nat.{ℕ, zero, suc, pred, _+_, _-_, _/_, _%_, max, min}
 use lib.Dec.{leb, ltb, eqb}
 use lib.ListN.{length}
 use Rattle.sizes.specs.Ladder.{Ladder}
 use Rattle.model.specs.Ladder.{frames, top, probes}
-use Rattle.model.specs.Frames.{paint}
-use Rattle.model.specs.Calls.{Region, Call, seed, acquire, release, report, Answer, refused, stored, dealt, reported, Test, refuse, verdict, Outcome, settle}
+use Rattle.model.specs.Calls.{Region, Call, seed, acquire, release, report, stored, dealt, reported, Test, refuse, verdict, Outcome, settle}
 use Rattle.model.specs.Lists.{maximum, sum, all}
-use Rattle.model.specs.Tree.{NodeOf, node, Tree, empty, child, largest, words, freeFrames, store, remove, pick}
+use Rattle.model.specs.Tree.{node, Tree, empty, child, largest, words, freeFrames, store, remove, pick}
 
 -- how many frames of the block of s frames at b lie in the region
 abbrev pub overlap : (b s : ℕ) → Region → ℕ

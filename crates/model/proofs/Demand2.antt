@@ -4,7 +4,7 @@ use mathlib.Core.Path.{_≡_, refl, sym, ap, _∙_}
 use mathlib.Core.Logic.{_↔_, _≢_}
 use mathlib.Core.Bool.{Bool, true, false, _&&_, not, cond, and-eq-true-iff, true≢false, false≢true}
 use mathlib.Core.List.{List, [], _∷_}
-use Prim.Native.Nat.{ℕ, zero, suc, _+_, _*_, _-_, _%_, _≤_, _<_}
+use Prim.Native.Nat.{ℕ, zero, suc, _*_, _-_, _%_, _≤_, _<_}
 use native.Mathlib.Omega.{arith}
 use native.Mathlib.Decide.{decLt}
 use native.Mathlib.Nat.{le-of-suc-le-suc}
@@ -13,19 +13,20 @@ use lib.ListN.{length}
 use borrow.Author.Tests.{ltb-true, ltb-false, leb-false, eqb-true, le-ltb, not-false}
 use Rattle.sizes.specs.Ladder.{Ladder}
 use Rattle.model.specs.Ladder.{frames, top}
-use Rattle.model.specs.Frames.{Wholly, Changed, within, paint, count}
+use Rattle.model.specs.Frames.{Wholly, Changed, paint, count}
 use Rattle.model.specs.Calls.{Region, seeded, Call, seed, acquire, release, report, refused, Test, refuse, verdict, settle}
 use Rattle.model.specs.FrameStore.{whole, bare, Frames, memory, blocks, lowestFree, largestFree, Same, frameAct, refusals, frameStep}
 use Rattle.model.specs.Tree.{Tree, largest, free, freeFrames, Sound, store, remove, pick}
 use Rattle.model.specs.TreeStore.{covered, apart, seededFrames, anyFree, seedFrom, used, State, act, lacksRoom, tests, step}
 use Rattle.model.specs.Laws.{BlockIn}
 use Rattle.model.specs.Demands.{SoundState, shown, AsFrames, Demand2}
+use Rattle.model.proofs.Frames.{changed-same, painted, painted-more, inside-changed, count-same}
 use Rattle.model.proofs.Free.{largest-le, lowest-same, block-largest, frames-le, pick-lowest}
 use Rattle.model.proofs.Change.{remove-done, store-done}
-use Rattle.model.proofs.Count.{count-same, freeFrames-count}
-use Rattle.model.proofs.Seed.{painted, apart-iff, seeded-count, covered-iff, seed-done, anyFree-false, anyFree-true}
+use Rattle.model.proofs.Count.{freeFrames-count}
+use Rattle.model.proofs.Regions.{apart-iff, seeded-count, covered-iff}
+use Rattle.model.proofs.Seed.{seed-done, anyFree-false, anyFree-true}
 use Rattle.model.proofs.FrameStore.{same-test, same-order, whole-iff, bare-iff, not-bare, lowestFree-le, lowestFree-lowest}
-use Rattle.model.proofs.Cases.{deep}
 
 -- a tree's tests beside the frame store's: each pair says the same once the earlier ones have passed; past them all the tree may test for room, which w says is missing, and P holds
 data Beside (w : Bool) (P : Type 0) : List Test → List Test → Type 0 where
@@ -50,33 +51,6 @@ both-verdicts w P ts us (pair {x = true} {y = true} k b e r) =
 both-verdicts w P ts us (pair {x = true} {y = false} k b e r) = absurd (true≢false e)
 both-verdicts w P ts us (pair {x = false} {y = true} k b e r) = absurd (false≢true e)
 both-verdicts w P ts us (pair {ts = ts'} {us = us'} {x = false} {y = false} k b e r) = both-verdicts w P ts' us' (r refl)
-
--- the same change of functions that agree below N leaves functions that agree below N
-changed-same : (g g' h h' : ℕ → Bool) (N b s : ℕ) (v : Bool) → Changed g g' N b s v → Changed h h' N b s v → ((f : ℕ) → f < N → g f ≡ h f) → (f : ℕ) → f < N → g' f ≡ h' f
-changed-same g g' h h' N b s v c k e f l = go (decLt f b) (decLt f (b + s))
-  where
-    go : Dec (f < b) → Dec (f < b + s) → g' f ≡ h' f
-    go (yes x) y = c .below f x ∙ e f l ∙ sym (k .below f x)
-    go (no x) (yes y) = c .inside f (omega arith) y ∙ sym (k .inside f (omega arith) y)
-    go (no x) (no y) = c .above f (omega arith) l ∙ e f l ∙ sym (k .above f (omega arith) l)
-
--- what is free stays in what is seeded: a change of a block to y, where the block is seeded if y is true and no frame is seeded no more
-inside-changed : (S F S' F' : ℕ → Bool) (N b s : ℕ) (y : Bool) → (y ≡ true → Wholly S' b s true) → ((f : ℕ) → S f ≡ true → S' f ≡ true) → Changed F F' N b s y
-    → ((f : ℕ) → f < N → F f ≡ true → S f ≡ true) → (f : ℕ) → f < N → F' f ≡ true → S' f ≡ true
-inside-changed S F S' F' N b s y w u k h f l e = go (decLt f b) (decLt f (b + s))
-  where
-    go : Dec (f < b) → Dec (f < b + s) → S' f ≡ true
-    go (yes p) q = u f (h f l (sym (k .below f p) ∙ e))
-    go (no p) (yes q) = w (sym (k .inside f (omega arith) q) ∙ e) f (omega arith) q
-    go (no p) (no q) = u f (h f l (sym (k .above f (omega arith) l) ∙ e))
-
--- painting true adds only
-painted-more : (b s : ℕ) (g : ℕ → Bool) (f : ℕ) → g f ≡ true → paint b s true g f ≡ true
-painted-more b s g f e = go (within b s f) refl
-  where
-    go : (v : Bool) → within b s f ≡ v → paint b s true g f ≡ true
-    go true x = rw x refl
-    go false x = rw x e
 
 module _ (L : Ladder) where
   -- a block that passes tests 1 to 3 of a release stands in memory

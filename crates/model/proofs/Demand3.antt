@@ -1,9 +1,9 @@
 -- Demand 3 on trees: the tree store is a store that answers as the frame store does. Assumes nothing.
 use mathlib.Core.Path.{_≡_, refl, sym, ap, _∙_}
-use mathlib.Core.Logic.{_↔_, _≢_}
-use mathlib.Core.Bool.{Bool, true, false, false≢true}
-use mathlib.Core.List.{List, [], _∷_}
-use Prim.Native.Nat.{ℕ, zero, suc, _+_, _≤_, _<_}
+use mathlib.Core.Logic.{_≢_}
+use mathlib.Core.Bool.{false, false≢true}
+use mathlib.Core.List.{List}
+use Prim.Native.Nat.{ℕ, zero, suc, _≤_}
 use native.Mathlib.Omega.{arith}
 use Rattle.sizes.specs.Ladder.{Ladder}
 use Rattle.model.specs.Ladder.{frames, top}
@@ -14,11 +14,12 @@ use Rattle.model.specs.Tree.{empty, free}
 use Rattle.model.specs.TreeStore.{used, State, fresh, act, tests, step}
 use Rattle.model.specs.Runs.{Run, start, run, reseed, Roomy}
 use Rattle.model.specs.Demands.{SoundState, shown, Demand3}
+use Rattle.model.proofs.Frames.{count-add}
 use Rattle.model.proofs.Free.{largest-empty, quiet-free}
 use Rattle.model.proofs.Change.{sound-empty}
-use Rattle.model.proofs.Count.{count-add, words-empty, freeFrames-count}
-use Rattle.model.proofs.Seed.{seeded-past, seeded-count}
-use Rattle.model.proofs.SameFrames.{never-refused, demand2, stays-sound}
+use Rattle.model.proofs.Count.{words-empty, freeFrames-count}
+use Rattle.model.proofs.Regions.{seeded-past, seeded-count}
+use Rattle.model.proofs.Demand2.{never-refused, demand2, stays-sound}
 use Rattle.model.proofs.AnyStore.{Answers, Inv, inv-run, deals-unheld, settled-answer, reseed-inv, reseed-held, reseed-regions}
 
 module _ (L : Ladder) (most n : ℕ) where
