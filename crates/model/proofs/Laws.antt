@@ -20,7 +20,7 @@ use Rattle.model.proofs.Change.{remove-done, store-done}
 use Rattle.model.proofs.Count.{freeFrames-count, stored-frames, taken-frames}
 use Rattle.model.proofs.Regions.{apart-iff, covered-iff}
 use Rattle.model.proofs.Seed.{seed-done, anyFree-false, anyFree-true}
-use Rattle.model.proofs.Probes.{probes-own, probes-fans}
+use Rattle.model.proofs.Probes.{probes-own, probes-fans, looked-probes}
 
 pub region-laws : (N : ℕ) (rs : List Region) → Regions N rs → RegionLaws rs
 region-laws N rs k = record { apart-is = λ a e l. apart-iff N a e rs k l; covered-is = λ b s. covered-iff N b s rs k }
@@ -78,6 +78,7 @@ module _ (L : Ladder) where
       λ x. block-largest L d d' t (x .0) s l (x .1 .aligned) (x .1 .fits) (x .2),
     );
     lowest = λ d' h. pick-lowest L d d' t s h;
+    looked = λ d' h. looked-probes L d d' t s h;
     same-largest = λ t' a. omega (arith, largest-up d t t' s (a .sound) (a .frames), largest-up d t' t (a .sound) s (λ f l. sym (a .frames f l)));
     same-pick = λ t' a d' h. lowest-same (free L d t) (free L d t') (frames L d) (frames L d') (pick L d d' t) (pick L d d' t') (a .frames)
         (pick-lowest L d d' t s h) (pick-lowest L d d' t' (a .sound) (omega (arith, largest-up d t t' s (a .sound) (a .frames))));

@@ -10,7 +10,7 @@ use Rattle.sizes.specs.Six.{six}
 use Rattle.model.specs.Ladder.{fan, frames, top, probes, fans}
 use Rattle.model.specs.Frames.{Wholly, Changed, Lowest, count}
 use Rattle.model.specs.Calls.{Region, seeded}
-use Rattle.model.specs.Tree.{Tree, largest, free, freeFrames, Sound, store, remove, pick}
+use Rattle.model.specs.Tree.{Tree, largest, free, freeFrames, Sound, store, remove, pick, looked}
 use Rattle.model.specs.TreeStore.{covered, apart, anyFree, seedFrom}
 
 -- the tests of regions, where these are not empty and share no frame
@@ -57,7 +57,9 @@ module _ (L : Ladder) where
     pub offers : (d' : ℕ) → d' ≤ d → (suc d' ≤ largest d t) ↔ ((b : ℕ) × BlockIn d d' b × Wholly (free L d t) b (frames L d') true)
     -- pick is the lowest such block
     pub lowest : (d' : ℕ) → suc d' ≤ largest d t → Lowest (free L d t) (frames L d) (frames L d') (pick L d d' t)
-    -- both depend on the free frames alone
+    -- the children looked at on the way to it are counted by its base and code alone
+    pub looked : (d' : ℕ) → suc d' ≤ largest d t → looked L d d' t ≡ probes L d d' (pick L d d' t)
+    -- largest and pick depend on the free frames alone
     pub same-largest : (t' : Tree d) → Alike d t t' → largest d t ≡ largest d t'
     pub same-pick : (t' : Tree d) → Alike d t t' → (d' : ℕ) → suc d' ≤ largest d t → pick L d d' t ≡ pick L d d' t'
     -- 7: some frame of a block is free

@@ -112,3 +112,11 @@ module _ (L : Ladder) where
   pick (suc d) d' (node false ks) =
       let i = first (λ k. leb (suc d') (largest d k)) ks in
       i * frames L d + pick d d' (child d ks i)
+
+  -- the children that an acquire of the code looks at on its way down: at each level those up to the first that offers it, behind opening and handing on
+  unfoldable pub looked : (d d' : ℕ) → Tree d → ℕ
+  looked zero d' v = 0
+  looked (suc d) d' (node v ks) = elim (ltb d' (suc d)) [
+    | false ↦ 0
+    | true ↦ let i = first (λ k. leb (suc d') (largest d k)) (handedOn d v ks) in suc i + looked d d' (child d (handedOn d v ks) i)
+  ]
