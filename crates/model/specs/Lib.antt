@@ -8,4 +8,10 @@ pub mod TreeStore
 pub mod Laws
 pub mod Runs
 pub mod Demands
+pub mod Rust
+pub mod StandIns
+pub mod Original
+pub mod Picture
+pub mod OriginalRuns
+pub mod OriginalLaws
 pub mod Cases
