@@ -54,7 +54,7 @@ both-verdicts w P ts us (pair {ts = ts'} {us = us'} {x = false} {y = false} k b 
 
 module _ (L : Ladder) where
   -- a block that passes tests 1 to 3 of a release stands in memory
-  block-stands : (b d : ℕ) → d ≤ top L → not (eqb (b % frames L d) 0) ≡ false → ltb (memory L - frames L d) b ≡ false → BlockIn L (top L) d b
+  pub block-stands : (b d : ℕ) → d ≤ top L → not (eqb (b % frames L d) 0) ≡ false → ltb (memory L - frames L d) b ≡ false → BlockIn L (top L) d b
   block-stands b d deep h k = record {
     deep = deep;
     aligned = eqb-true (b % frames L d) 0 (not-false (eqb (b % frames L d) 0) h);

@@ -46,7 +46,7 @@ module _ (L : Ladder) (most n : ℕ) where
   empty-free : (f : ℕ) → free L (top L) (empty (top L)) f ≡ false
   empty-free f = quiet-free L (top L) (empty (top L)) f (largest-empty (top L))
 
-  fresh-sound : 1 ≤ n → SoundState L most n (fresh L)
+  pub fresh-sound : 1 ≤ n → SoundState L most n (fresh L)
   unfolding used
   fresh-sound l = record {
     sound = sound-empty L (top L);

@@ -1,19 +1,19 @@
 -- The laws of `specs/Laws`, gathered. Assumes nothing.
-use mathlib.Core.Path.{_≡_, refl, sym, ap, _∙_}
+use mathlib.Core.Path.{_≡_, refl, sym, _∙_}
 use mathlib.Core.Bool.{Bool, true, false, true≢false}
 use mathlib.Core.List.{List, [], _∷_}
-use Prim.Native.Nat.{ℕ, zero, suc, pred, _+_, _*_, _-_, _≤_, _<_, max}
+use Prim.Native.Nat.{ℕ, zero, suc, _+_, _-_, _≤_, _<_}
 use native.Mathlib.Omega.{arith}
 use native.Mathlib.Decide.{decLt}
-use native.Mathlib.Nat.{mul-assoc}
-use Rattle.sizes.specs.Ladder.{Ladder, smallest, largest as largest-code, bytes, fanOut}
+use Rattle.sizes.specs.Ladder.{Ladder}
 use Rattle.sizes.specs.Laws.{MultipliesUp}
-use Rattle.model.specs.Ladder.{fan, frames, top}
+use Rattle.model.specs.Ladder.{frames, top}
 use Rattle.model.specs.Frames.{Wholly, Changed, paint}
 use Rattle.model.specs.Calls.{Region, seeded, Regions}
 use Rattle.model.specs.Tree.{Tree, largest, free, freeFrames, Sound, pick}
 use Rattle.model.specs.TreeStore.{anyFree, seedFrom}
 use Rattle.model.specs.Laws.{RegionLaws, Straddles, OfTables, ProbeLaws, BlockIn, Alike, TreeLaws, SeedLaws}
+use Rattle.model.proofs.Ladder.{fan-is, frames-is, bytes-is}
 use Rattle.model.proofs.Frames.{changed-append, changed-same, within-in, within-below, within-above, count-stored}
 use Rattle.model.proofs.Free.{largest-le, lowest-same, block-largest, pick-lowest}
 use Rattle.model.proofs.Change.{remove-done, store-done}
@@ -42,24 +42,11 @@ straddles a m e b s l k p q = covered-iff e b s (record { start = m; end = e } �
 ) .1 (λ f x y. touch a m e f (omega arith) (omega arith))
 
 module _ (L : Ladder) where
-  -- frames by the fan-outs, at every code
-  size-is : MultipliesUp L → (d : ℕ) → suc d ≤ largest-code L → frames L d * bytes L smallest ≡ bytes L (suc d)
-  unfolding frames fan
-  size-is m zero k = omega arith
-  size-is m (suc d) k =
-      let w = m .wide (suc d) (omega arith) k in
-      let z : max 2 (fanOut L (suc (suc d))) ≡ fanOut L (suc (suc d)) = omega arith in
-      rw z (mul-assoc (fanOut L (suc (suc d))) (frames L d) (bytes L smallest) ∙ ap (λ (n : ℕ). fanOut L (suc (suc d)) * n) (size-is m d (omega arith)) ∙ sym (m .multiply (suc d) (omega arith) k))
-
   pub probe-laws : ProbeLaws L
   probe-laws = record { bounded = probes-fans L; none = probes-own L }
 
   pub of-tables : MultipliesUp L → OfTables L
-  unfolding fan
-  of-tables m = record {
-    fan-out = λ c k h. let z : suc (pred c) ≡ c = omega arith in rw z (omega (arith, rw z at (m .wide (pred c) (omega arith) (omega (arith, k .high)))));
-    size = λ c k. let z : suc (pred c) ≡ c = omega (arith, k .low) in size-is m (pred c) (omega (arith, k .high)) ∙ ap (bytes L) z;
-  }
+  of-tables m = record { fan-out = λ d h. fan-is L m d h; in-frames = λ d h. frames-is L m d h; in-bytes = λ d h. bytes-is L m d h }
 
   -- trees that offer the same frames offer the same codes
   largest-up : (d : ℕ) (t t' : Tree d) → Sound L d t → Sound L d t' → ((f : ℕ) → f < frames L d → free L d t f ≡ free L d t' f) → largest d t ≤ largest d t'

@@ -15,12 +15,12 @@ pub mod Verdict
 pub mod FrameRuns
 pub mod AnyStore
 pub mod Demand3
+pub mod Picture
 pub mod OriginalLists
 pub mod OriginalLadder
 pub mod OriginalPicture
 pub mod OriginalStore
 pub mod OriginalTake
 pub mod OriginalSeed
-pub mod OriginalRuns
-pub mod OriginalLaws
+pub mod AsOriginal
 pub mod Cases

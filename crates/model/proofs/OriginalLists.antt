@@ -10,9 +10,10 @@ use lib.Dec.{leb}
 use lib.ListN.{length, getD, set, replicate}
 use borrow.Author.Tests.{lt-ltb, lt-leb}
 use Rattle.model.specs.Lists.{maximum, all, first}
-use Rattle.model.specs.Rust.{gives, unwrap, element, position, atLeast, maxOption, maxOfAll}
+use Rattle.model.specs.TreeStore.{step}
+use Rattle.model.specs.Rust.{gives, unwrap, atLeast, maxOption, element, position, maxOfAll}
 use Rattle.model.specs.StandIns.{coded}
-use Rattle.model.specs.Picture.{spread}
+use Rattle.model.proofs.Picture.{spread}
 
 -- a code that is not 0
 pub unwrap-coded : (n : ℕ) → 0 < n → unwrap (coded n) ≡ gives n

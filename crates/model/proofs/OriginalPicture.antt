@@ -10,20 +10,23 @@ use lib.Dec.{eqb}
 use lib.ListN.{length, set, replicate, length-append}
 use lib.Seq.{set-at, append-snoc}
 use borrow.Author.Tests.{lt-ltb, le-leb, eq-eqb}
-use Rattle.sizes.specs.Ladder.{Ladder, smallest, largest as largestCode, bytes, smaller}
+use Rattle.sizes.specs.Ladder.{Ladder, smallest, largest as largest-code, bytes, smaller}
 use Rattle.sizes.specs.Laws.{MultipliesUp}
 use Rattle.model.specs.Ladder.{fan, frames}
+use Rattle.model.specs.FrameStore.{size}
 use Rattle.model.specs.Lists.{maximum, all}
 use Rattle.model.specs.Tree.{node, Tree, token, empty, mark, child, largest, merge, Sound, opened, handedOn}
-use Rattle.model.specs.Rust.{Ends, gives, _>>=_, _>>_, assert, isSome, word, plus, times, element, mapCollect, collectFrom, forEach}
-use Rattle.model.specs.StandIns.{coded, Page, divide, mergePages, init}
-use Rattle.model.specs.Original.{PageStorageTreeNode, tokenOf, maxOf, emptyNode, «store_page_token_in_this_node», «acquire_page_token_from_this_node», «calculate_child_index», «initialize_children_if_needed», «divide_page_token_if_necessary», «try_to_merge_page_tokens»}
-use Rattle.model.specs.Picture.{NodeAt, given, spread, picture}
-use Rattle.model.proofs.Ladder.{fan-pos}
+use Rattle.model.specs.TreeStore.{step}
+use Rattle.model.specs.Rust.{_>>=_, _>>_, Ends, gives, assert, word, plus, times, isSome, element, mapCollect, collectFrom, forEach}
+use Rattle.model.specs.StandIns.{coded, Page, init, divide, mergePages}
+use Rattle.model.specs.Original.{PageStorageTreeNode, tokenOf, maxOf, emptyNode, «store_page_token_in_this_node», «acquire_page_token_from_this_node», «initialize_children_if_needed», «calculate_child_index», «divide_page_token_if_necessary», «try_to_merge_page_tokens»}
+use Rattle.model.specs.AsOriginal.{address}
+use Rattle.model.proofs.Ladder.{fan-pos, fan-is, bytes-fan, bytes-some, smaller-suc}
 use Rattle.model.proofs.Lists.{maximum-zero, getD-rep}
 use Rattle.model.proofs.Free.{largest-empty}
+use Rattle.model.proofs.Picture.{given, spread, NodeAt, picture}
 use Rattle.model.proofs.OriginalLists.{spread-length, spread-all, spread-replicate, element-behind}
-use Rattle.model.proofs.OriginalLadder.{fan-is, bytes-fan, bytes-some, smaller-suc, index-is}
+use Rattle.model.proofs.OriginalLadder.{index-is}
 
 pub some-given : (v : Bool) (p : Page) → isSome (given v p) ≡ v
 some-given true p = refl
@@ -112,7 +115,7 @@ module _ (L : Ladder) where
       rw (picture-acquire d base k (s 0) (x .0), acquire-all d step (base + step) ks e (λ i. s (suc i)) (x .1), e)
 
 module _ (L : Ladder) (m : MultipliesUp L) (d base : ℕ) (here : NodeAt L (suc d) base) where
-  code : suc (suc d) ≤ largestCode L
+  code : suc (suc d) ≤ largest-code L
   code = here .code
 
   bytes-here : 0 < bytes L (suc d)

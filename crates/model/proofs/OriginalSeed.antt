@@ -9,23 +9,26 @@ use native.Mathlib.Decide.{decLt, ℕ-discrete}
 use native.Mathlib.Nat.{not-suc-le-zero, add-mul, mul-le-mul-left, mul-le-mul-right, mul-lt-mul-of-pos-right, mod-eq-zero-of-dvd, dvd-of-mod-eq-zero, dvd-trans, dvd-add, dvd-refl, mul-mod-left, zero-mod}
 use lib.Dec.{leb, ltb, eqb}
 use borrow.Author.Tests.{ltb-true, ltb-false, leb-true, leb-false, eqb-true, eqb-false, lt-ltb, le-ltb, le-leb, lt-leb, ne-eqb}
-use Rattle.sizes.specs.Ladder.{Ladder, smallest, largest as largestCode, bytes, smaller, larger}
+use Rattle.sizes.specs.Ladder.{Ladder, smallest, largest as largest-code, bytes, smaller, larger}
 use Rattle.sizes.specs.Laws.{MultipliesUp}
 use Rattle.model.specs.Ladder.{frames, top}
 use Rattle.model.specs.Frames.{Wholly}
+use Rattle.model.specs.Calls.{stored}
+use Rattle.model.specs.FrameStore.{bare, size}
 use Rattle.model.specs.Tree.{Tree, largest, free, Sound, store, remove, pick}
-use Rattle.model.specs.Laws.{BlockIn}
 use Rattle.model.specs.TreeStore.{largestFit, seedFrom}
-use Rattle.model.specs.Rust.{Ends, gives, _>>=_, _>>_, isSome, minus, forEach, while, ok, err}
-use Rattle.model.specs.StandIns.{isBounded, TooMuchMemory, OutOfPages, coded, Page, init}
-use Rattle.model.specs.Original.{«find_largest_page_size», regionLoop, «store_page_token», «add_memory_region», «acquire_page», «release_pages»}
-use Rattle.model.specs.Picture.{Addressable, NodeAt, picture, allocator}
-use Rattle.model.proofs.Ladder.{frames-pos, frames-dvd}
+use Rattle.model.specs.Laws.{BlockIn}
+use Rattle.model.specs.Rust.{_>>=_, _>>_, Ends, gives, minus, isSome, ok, err, forEach, while}
+use Rattle.model.specs.StandIns.{TooMuchMemory, OutOfPages, coded, isBounded, Page, init}
+use Rattle.model.specs.Original.{«find_largest_page_size», «store_page_token», regionLoop, «add_memory_region», «acquire_page», «release_pages»}
+use Rattle.model.specs.AsOriginal.{Addressable, address}
+use Rattle.model.proofs.Ladder.{frames-pos, frames-dvd, bytes-is, bytes-some, smaller-suc, largest-top}
 use Rattle.model.proofs.Change.{Makes, store-done}
 use Rattle.model.proofs.Seed.{largestFit-ok}
-use Rattle.model.proofs.OriginalLadder.{bytes-is, bytes-some, smaller-suc, largest-top, scale-mod}
+use Rattle.model.proofs.Picture.{NodeAt, picture, allocator}
+use Rattle.model.proofs.OriginalLadder.{scale-mod}
 use Rattle.model.proofs.OriginalStore.{store-is}
-use Rattle.model.proofs.OriginalTake.{acquire-is, acquire-none}
+use Rattle.model.proofs.OriginalTake.{acquire-none, acquire-is}
 
 -- a number of bytes is 0 where the number of pages is
 scale-zero : (x p : ℕ) → 0 < p → eqb (x * p) 0 ≡ eqb x 0
@@ -83,30 +86,30 @@ module _ (L : Ladder) where
   seed-end zero t a e h = refl
   seed-end (suc k) t a e h = rw (le-ltb a e h, seedFrom)
 
-  larger-is : (d : ℕ) → suc d < largestCode L → larger L (suc d) ≡ suc (suc d)
+  larger-is : (d : ℕ) → suc d < largest-code L → larger L (suc d) ≡ suc (suc d)
   unfolding larger
-  larger-is d h = rw (le-leb 1 (suc d) (omega arith), lt-ltb (suc d) (largestCode L) h) (omega arith)
+  larger-is d h = rw (le-leb 1 (suc d) (omega arith), lt-ltb (suc d) (largest-code L) h) (omega arith)
 
-  larger-none : (d : ℕ) → largestCode L ≤ suc d → larger L (suc d) ≡ 0
+  larger-none : (d : ℕ) → largest-code L ≤ suc d → larger L (suc d) ≡ 0
   unfolding larger
-  larger-none d h = rw (le-leb 1 (suc d) (omega arith), le-ltb (suc d) (largestCode L) h)
+  larger-none d h = rw (le-leb 1 (suc d) (omega arith), le-ltb (suc d) (largest-code L) h)
 
 module _ (L : Ladder) (m : MultipliesUp L) where
   -- the original's tests of a block of code suc d at page a, for a region that ends at page e
-  aligned-test : (d a : ℕ) → suc d ≤ largestCode L → eqb (a * bytes L smallest % bytes L (suc d)) 0 ≡ eqb (a % frames L d) 0
+  aligned-test : (d a : ℕ) → suc d ≤ largest-code L → eqb (a * bytes L smallest % bytes L (suc d)) 0 ≡ eqb (a % frames L d) 0
   aligned-test d a h = rw (bytes-is L m d h, scale-mod a (frames L d) (bytes L smallest) (m .page)) (scale-zero (a % frames L d) (bytes L smallest) (m .page))
 
-  fits-test : (d a e : ℕ) → suc d ≤ largestCode L → isBounded (a * bytes L smallest) (bytes L (suc d) - 1) (e * bytes L smallest) ≡ leb (a + frames L d) e
+  fits-test : (d a e : ℕ) → suc d ≤ largest-code L → isBounded (a * bytes L smallest) (bytes L (suc d) - 1) (e * bytes L smallest) ≡ leb (a + frames L d) e
   fits-test d a e h = rw (bytes-is L m d h) (scale-fits a (frames L d) e (bytes L smallest) (m .page) (frames-pos L d))
 
-  next-address : (d a : ℕ) → suc d ≤ largestCode L → a * bytes L smallest + bytes L (suc d) ≡ (a + frames L d) * bytes L smallest
+  next-address : (d a : ℕ) → suc d ≤ largest-code L → a * bytes L smallest + bytes L (suc d) ≡ (a + frames L d) * bytes L smallest
   next-address d a h = rw (bytes-is L m d h) (sym (add-mul a (frames L d) (bytes L smallest)))
 
-  next-test : (d a e : ℕ) → suc d ≤ largestCode L → isBounded (a * bytes L smallest) (bytes L (suc d)) (e * bytes L smallest) ≡ ltb (a + frames L d) e
+  next-test : (d a e : ℕ) → suc d ≤ largest-code L → isBounded (a * bytes L smallest) (bytes L (suc d)) (e * bytes L smallest) ≡ ltb (a + frames L d) e
   next-test d a e h = rw (next-address d a h) (scale-less (a + frames L d) e (bytes L smallest) (m .page))
 
   -- the second loop: down to the largest that fits
-  smaller-loop-is : (n d a e : ℕ) → d < n → suc d ≤ largestCode L → a < e → a % frames L d ≡ 0
+  smaller-loop-is : (n d a e : ℕ) → d < n → suc d ≤ largest-code L → a < e → a % frames L d ≡ 0
       → smallerLoop L n (suc d) (a * bytes L smallest) (e * bytes L smallest) ≡ gives (suc (largestFit L d a e))
   unfolding while largestFit frames
   smaller-loop-is zero d a e l c h k = absurd (not-suc-le-zero l)
@@ -114,7 +117,7 @@ module _ (L : Ladder) (m : MultipliesUp L) where
   smaller-loop-is (suc n) (suc d) a e l c h k = go (leb (a + frames L (suc d)) e) refl (smaller-loop-is n d a e)
     where
       go : (x : Bool) → leb (a + frames L (suc d)) e ≡ x
-          → (d < n → suc d ≤ largestCode L → a < e → a % frames L d ≡ 0 → smallerLoop L n (suc d) (a * bytes L smallest) (e * bytes L smallest) ≡ gives (suc (largestFit L d a e)))
+          → (d < n → suc d ≤ largest-code L → a < e → a % frames L d ≡ 0 → smallerLoop L n (suc d) (a * bytes L smallest) (e * bytes L smallest) ≡ gives (suc (largestFit L d a e)))
           → smallerLoop L (suc n) (suc (suc d)) (a * bytes L smallest) (e * bytes L smallest) ≡ gives (suc (largestFit L (suc d) a e))
       go true x ih = rw (le-leb 1 (bytes L (suc (suc d))) (bytes-some L m (suc d) c), fits-test (suc d) a e c, x, k, largestFit)
       go false x ih = rw (le-leb 1 (bytes L (suc (suc d))) (bytes-some L m (suc d) c), fits-test (suc d) a e c, smaller-suc L m d c, x, k, largestFit) (ih (omega arith) (omega arith) h aligned)
@@ -123,17 +126,17 @@ module _ (L : Ladder) (m : MultipliesUp L) where
           aligned = mod-eq-zero-of-dvd (frames L d) (dvd-trans (frames L d) (frames-dvd L d (suc d) (omega arith)) (dvd-of-mod-eq-zero (frames L (suc d)) k))
 
   -- both loops, from a size that is aligned
-  loops-are : (n d a e : ℕ) → top L < n + d → suc d ≤ largestCode L → a < e → a % frames L d ≡ 0
+  loops-are : (n d a e : ℕ) → top L < n + d → suc d ≤ largest-code L → a < e → a % frames L d ≡ 0
       → loops L n (suc d) (a * bytes L smallest) (e * bytes L smallest) ≡ gives (suc (largestFit L (top L) a e))
   unfolding while
   loops-are zero d a e l c h k = absurd (omega (arith, largest-top L m))
-  loops-are (suc n) d a e l c h k = go (decLt (suc d) (largestCode L)) (eqb (a % frames L (suc d)) 0) refl (loops-are n (suc d) a e)
+  loops-are (suc n) d a e l c h k = go (decLt (suc d) (largest-code L)) (eqb (a % frames L (suc d)) 0) refl (loops-are n (suc d) a e)
     where
       down : smallerLoop L (suc (top L)) (suc d) (a * bytes L smallest) (e * bytes L smallest) ≡ gives (suc (largestFit L d a e))
       down = smaller-loop-is (suc (top L)) d a e (omega (arith, largest-top L m)) c h k
 
-      go : Dec (suc d < largestCode L) → (x : Bool) → eqb (a % frames L (suc d)) 0 ≡ x
-          → (top L < n + suc d → suc (suc d) ≤ largestCode L → a < e → a % frames L (suc d) ≡ 0
+      go : Dec (suc d < largest-code L) → (x : Bool) → eqb (a % frames L (suc d)) 0 ≡ x
+          → (top L < n + suc d → suc (suc d) ≤ largest-code L → a < e → a % frames L (suc d) ≡ 0
           → loops L n (suc (suc d)) (a * bytes L smallest) (e * bytes L smallest) ≡ gives (suc (largestFit L (top L) a e)))
           → loops L (suc n) (suc d) (a * bytes L smallest) (e * bytes L smallest) ≡ gives (suc (largestFit L (top L) a e))
       go (no u) x y ih =
@@ -144,8 +147,8 @@ module _ (L : Ladder) (m : MultipliesUp L) where
           rw (larger-is L d u, aligned-test (suc d) a u, y)
           (down ∙ ap (λ (i : ℕ). gives (suc i)) (sym (fit-above L d (top L) a e (omega (arith, largest-top L m)) (eqb-false (a % frames L (suc d)) 0 y))))
 
-  -- (3) the largest page size at page a, from any size that is aligned there
-  pub find-is : (d a e : ℕ) → suc d ≤ largestCode L → a < e → a % frames L d ≡ 0
+  -- the largest page size at page a, from any size that is aligned there
+  pub find-is : (d a e : ℕ) → suc d ≤ largest-code L → a < e → a % frames L d ≡ 0
       → «find_largest_page_size» L (suc d) (a * bytes L smallest) (e * bytes L smallest) ≡ gives (suc (largestFit L (top L) a e))
   unfolding «find_largest_page_size»
   find-is d a e c h k = rw (largest-top L m) (loops-are (suc (top L)) d a e (omega arith) c h k)
@@ -160,7 +163,7 @@ module _ (L : Ladder) (m : MultipliesUp L) where
 
   -- the loop over the region, with n turns; the tree's seeding has k
   abbrev RegionIs : (n k : ℕ) → Type 0
-  RegionIs n k = (d a e : ℕ) (t : Tree (top L)) → e ≤ a + n → e ≤ a + k → suc d ≤ largestCode L → a % frames L d ≡ 0 → a < e → e ≤ frames L (top L) → Sound L (top L) t
+  RegionIs n k = (d a e : ℕ) (t : Tree (top L)) → e ≤ a + n → e ≤ a + k → suc d ≤ largest-code L → a % frames L d ≡ 0 → a < e → e ≤ frames L (top L) → Sound L (top L) t
       → Wholly (free L (top L) t) a (e - a) false
       → regionLoop L n (suc (top L)) 0 (suc d) (a * bytes L smallest) (e * bytes L smallest) (picture L (top L) 0 t) ≡ gives (picture L (top L) 0 (seedFrom L k t a e))
 
@@ -176,7 +179,7 @@ module _ (L : Ladder) (m : MultipliesUp L) where
       fit : (j ≤ top L) × (a % frames L j ≡ 0) × (a + frames L j ≤ e)
       fit = largestFit-ok L (top L) a e h
 
-      code : suc j ≤ largestCode L
+      code : suc j ≤ largest-code L
       code = omega (arith, fit, largest-top L m)
 
       place : BlockIn L (top L) j a
@@ -212,7 +215,7 @@ module _ (L : Ladder) (m : MultipliesUp L) where
       let y : e ≡ a + x = omega arith in
       omega (arith, ap (λ (i : ℕ). i * bytes L smallest) y, add-mul a x (bytes L smallest), mul-le-mul-left x (m .page))
 
-  -- (3) to add a region none of whose pages is free
+  -- to add a region none of whose pages is free
   pub add-is : Addressable L → (a e : ℕ) (t : Tree (top L)) → a < e → e ≤ frames L (top L) → Sound L (top L) t → Wholly (free L (top L) t) a (e - a) false
       → «add_memory_region» L (suc (top L)) (a * bytes L smallest) (e * bytes L smallest) (allocator L t) ≡ gives (ok tt, allocator L (seedFrom L (e - a) t a e))
   unfolding «add_memory_region» frames
@@ -231,7 +234,7 @@ module _ (L : Ladder) (m : MultipliesUp L) where
       let l : bytes L (suc (top L)) < e * p = omega (arith, bytes-is L m (top L) (omega (arith, largest-top L m)), mul-lt-mul-of-pos-right f (m .page)) in
       rw (mul-mod-left a p, mul-mod-left e p, lt-ltb (a * p) (e * p) (mul-lt-mul-of-pos-right h (m .page)), lt-leb (e * p) (bytes L (suc (top L))) l)
 
-  -- (2) to acquire a page, from the whole store
+  -- to acquire a page, from the whole store
   pub acquire-page-is : Addressable L → (d' : ℕ) (t : Tree (top L)) → Sound L (top L) t → suc d' ≤ largest (top L) t
       → «acquire_page» L (suc (top L)) (suc d') (allocator L t)
       ≡ gives (ok (init (pick L (top L) d' t * bytes L smallest) (suc d')), allocator L (remove L (top L) d' t (pick L (top L) d' t)))
@@ -242,7 +245,7 @@ module _ (L : Ladder) (m : MultipliesUp L) where
   unfolding «acquire_page»
   acquire-page-none d' t h = rw (acquire-none L (top L) d' 0 t h)
 
-  -- (4) to release one page, and then others
+  -- to release one page, and then others
   pub release-is : Addressable L → (d' b : ℕ) (t : Tree (top L)) (pages : List Page) → Sound L (top L) t → BlockIn L (top L) d' b → Wholly (free L (top L) t) b (frames L d') false
       → «release_pages» L (suc (top L)) (init (b * bytes L smallest) (suc d') ∷ pages) (allocator L t)
       ≡ «release_pages» L (suc (top L)) pages (allocator L (store L (top L) d' t b))

@@ -12,18 +12,20 @@ use Rattle.sizes.specs.Ladder.{Ladder, smallest, bytes}
 use Rattle.sizes.specs.Laws.{MultipliesUp}
 use Rattle.model.specs.Ladder.{fan, frames}
 use Rattle.model.specs.Frames.{Wholly}
+use Rattle.model.specs.FrameStore.{bare}
 use Rattle.model.specs.Lists.{maximum}
 use Rattle.model.specs.Tree.{node, Tree, empty, mark, child, largest, merge, free, Sound, opened, handedOn, store, pick}
 use Rattle.model.specs.Laws.{BlockIn}
 use Rattle.model.specs.Rust.{gives, word}
 use Rattle.model.specs.StandIns.{init}
 use Rattle.model.specs.Original.{«store_page_token_in_this_node», «child_address_and_size», «store_page_token»}
-use Rattle.model.specs.Picture.{NodeAt, picture}
-use Rattle.model.proofs.Ladder.{frames-pos}
+use Rattle.model.specs.AsOriginal.{address}
+use Rattle.model.proofs.Ladder.{frames-pos, smaller-suc}
 use Rattle.model.proofs.Free.{largest-le, block-largest, pick-lowest}
 use Rattle.model.proofs.Change.{place-down, child-lt, opened-length, handedOn-free, handedOn-sound, Makes, replaced-sound, block-child, store-done}
+use Rattle.model.proofs.Picture.{NodeAt, picture}
 use Rattle.model.proofs.OriginalLists.{unwrap-coded, some-coded, max-coded, spread-element, spread-set, maximum-set}
-use Rattle.model.proofs.OriginalLadder.{smaller-suc, address-in-child, node-down}
+use Rattle.model.proofs.OriginalLadder.{address-in-child, node-down}
 use Rattle.model.proofs.OriginalPicture.{picture-most, picture-store, merge-is, initialize-is, index-of}
 
 module _ (L : Ladder) where
@@ -73,7 +75,7 @@ module _ (L : Ladder) (m : MultipliesUp L) where
       let y = node-down L m d base i x l .ends in
       rw (smaller-suc L m d (x .code), lt-ltb (i * bytes L (suc d)) word (omega arith), lt-ltb (base + i * bytes L (suc d)) word (omega arith))
 
-  -- (1) to store a block none of whose frames is free
+  -- to store a block none of whose frames is free
   abbrev pub StoreIs : (d d' : ℕ) → Type 0
   StoreIs d d' = (base b address : ℕ) (t : Tree d) → NodeAt L d base → address ≡ base + b * bytes L smallest
       → Sound L d t → BlockIn L d d' b → Wholly (free L d t) b (frames L d') false

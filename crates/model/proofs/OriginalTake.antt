@@ -11,20 +11,21 @@ use lib.ListN.{length, getD, set, length-map}
 use borrow.Author.Tests.{ltb-true, ltb-false, le-leb, lt-leb, eq-eqb, ne-eqb}
 use Rattle.sizes.specs.Ladder.{Ladder, smallest, bytes}
 use Rattle.sizes.specs.Laws.{MultipliesUp}
-use Rattle.model.specs.Ladder.{fan, frames}
+use Rattle.model.specs.Ladder.{fan, frames, top}
 use Rattle.model.specs.Lists.{maximum, first}
 use Rattle.model.specs.Tree.{node, Tree, token, empty, mark, child, largest, SoundNode, Sound, opened, handedOn, remove, pick}
-use Rattle.model.specs.Rust.{gives, ok, err, atLeast}
+use Rattle.model.specs.Rust.{gives, atLeast, ok, err}
 use Rattle.model.specs.StandIns.{OutOfPages, init}
 use Rattle.model.specs.Original.{maxOf, «acquire_page_token»}
-use Rattle.model.specs.Picture.{NodeAt, picture}
-use Rattle.model.proofs.Ladder.{fan-pos, frames-pos}
-use Rattle.model.proofs.Lists.{getD-map-lt, maximum-le, first-first}
+use Rattle.model.specs.AsOriginal.{address}
+use Rattle.model.proofs.Ladder.{fan-pos, frames-pos, smaller-suc}
 use Rattle.model.proofs.Range.{child-no, child-at}
+use Rattle.model.proofs.Lists.{maximum-le, first-first, getD-map-lt}
 use Rattle.model.proofs.Free.{largest-le, pick-lowest}
 use Rattle.model.proofs.Change.{opened-length, handedOn-length, handedOn-sound}
-use Rattle.model.proofs.OriginalLists.{at-least-coded, spread-position, spread-element, spread-set, spread-max}
-use Rattle.model.proofs.OriginalLadder.{smaller-suc, address-in-child, node-down}
+use Rattle.model.proofs.Picture.{NodeAt, picture}
+use Rattle.model.proofs.OriginalLists.{at-least-coded, spread-element, spread-set, spread-position, spread-max}
+use Rattle.model.proofs.OriginalLadder.{address-in-child, node-down}
 use Rattle.model.proofs.OriginalPicture.{picture-token, picture-most, picture-acquire, initialize-is, divide-is}
 use Rattle.model.proofs.OriginalStore.{child-at-index}
 
@@ -106,7 +107,7 @@ module _ (L : Ladder) where
   acquire-whole d d' base address t x e s k = rw (x, e) (acquire-here d base t s k)
 
 module _ (L : Ladder) (m : MultipliesUp L) where
-  -- (2) to take a block of a size that the node offers
+  -- to take a block of a size that the node offers
   abbrev pub AcquireIs : (d d' : ℕ) → Type 0
   AcquireIs d d' = (base address : ℕ) (t : Tree d) → NodeAt L d base → address ≡ base + pick L d d' t * bytes L smallest → Sound L d t → suc d' ≤ largest d t
       → «acquire_page_token» L (suc d) base (suc d') (picture L d base t) ≡ gives (ok (init address (suc d')), picture L d base (remove L d d' t (pick L d d' t)))

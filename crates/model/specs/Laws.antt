@@ -3,9 +3,8 @@ use mathlib.Core.Path.{_≡_}
 use mathlib.Core.Logic.{_↔_}
 use mathlib.Core.Bool.{Bool, true, false}
 use mathlib.Core.List.{List, [], _∷_}
-use Prim.Native.Nat.{ℕ, suc, pred, _+_, _*_, _-_, _%_, _≤_, _<_}
-use Rattle.sizes.specs.Ladder.{Ladder, smallest, bytes, fanOut}
-use Rattle.sizes.specs.Laws.{IsCode}
+use Prim.Native.Nat.{ℕ, suc, _+_, _*_, _-_, _%_, _≤_, _<_}
+use Rattle.sizes.specs.Ladder.{Ladder, smallest, largest as largest-code, bytes, fanOut, frames as frames-of}
 use Rattle.sizes.specs.Six.{six}
 use Rattle.model.specs.Ladder.{fan, frames, top, probes, fans}
 use Rattle.model.specs.Frames.{Wholly, Changed, Lowest, count}
@@ -27,8 +26,9 @@ Straddles = (a m e b s : ℕ) → a < m → m < e → a ≤ b → b + s ≤ e �
 module _ (L : Ladder) where
   -- the tree's numbers are those of the tables, at every code
   pub record OfTables : Type 0 where
-    pub fan-out : (c : ℕ) → IsCode L c → smallest < c → fan L (pred c) ≡ fanOut L c
-    pub size : (c : ℕ) → IsCode L c → frames L (pred c) * bytes L smallest ≡ bytes L c
+    pub fan-out : (d : ℕ) → suc (suc d) ≤ largest-code L → fan L (suc d) ≡ fanOut L (suc (suc d))
+    pub in-frames : (d : ℕ) → suc d ≤ largest-code L → frames L d ≡ frames-of L (suc d)
+    pub in-bytes : (d : ℕ) → suc d ≤ largest-code L → bytes L (suc d) ≡ frames L d * bytes L smallest
 
   -- the children looked at are no more than there are on the way, and none for the largest code
   pub record ProbeLaws : Type 0 where

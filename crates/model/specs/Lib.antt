@@ -11,7 +11,5 @@ pub mod Demands
 pub mod Rust
 pub mod StandIns
 pub mod Original
-pub mod Picture
-pub mod OriginalRuns
-pub mod OriginalLaws
+pub mod AsOriginal
 pub mod Cases

@@ -8,7 +8,7 @@ use lib.Dec.{leb, ltb, eqb}
 use lib.ListN.{length, set, replicate}
 use Rattle.sizes.specs.Ladder.{Ladder, smallest, largest, bytes, fanOut, smaller, larger}
 use Rattle.model.specs.Lists.{all}
-use Rattle.model.specs.Rust.{Ends, panics, gives, _>>=_, _>>_, if_then_else_, assert, plus, times, minus, over, isSome, unwrap, atLeast, maxOption, Result, ok, unwrapOk, ensure, element, isEmpty, position, maxOfAll, mapCollect, forEach, while}
+use Rattle.model.specs.Rust.{if_then_else_, Ends, panics, gives, _>>=_, _>>_, assert, plus, times, minus, over, isSome, unwrap, atLeast, maxOption, Result, ok, unwrapOk, ensure, element, isEmpty, position, maxOfAll, mapCollect, forEach, while}
 use Rattle.model.specs.StandIns.{Error, TooMuchMemory, OutOfPages, coded, isBounded, Page, init, divide, mergePages}
 
 -- a node, for the type of its children

@@ -4,9 +4,10 @@ use mathlib.Core.Bool.{Bool, true, false}
 use mathlib.Core.Option.{Option, none, some}
 use mathlib.Core.List.{List, [], _∷_}
 use Prim.Native.Nat.{ℕ, zero, suc, _+_, _%_, _≤_, _<_}
-use Rattle.sizes.specs.Ladder.{Ladder, largest as largestCode, bytes}
+use Rattle.sizes.specs.Ladder.{Ladder, largest as largest-code, bytes}
 use Rattle.model.specs.Ladder.{top}
 use Rattle.model.specs.Tree.{node, Tree, largest}
+use Rattle.model.specs.TreeStore.{step}
 use Rattle.model.specs.Rust.{word}
 use Rattle.model.specs.StandIns.{coded, Page, init}
 use Rattle.model.specs.Original.{PageStorageTreeNode, PageAllocator}
@@ -21,13 +22,9 @@ unfoldable pub spread : {A B : Type 0} → (ℕ → A → B) → (base step : �
 spread f base step [] = []
 spread f base step (x ∷ xs) = f base x ∷ spread f (base + step) step xs
 
--- usize has the end of the largest block
-abbrev pub Addressable : Ladder → Type 0
-Addressable L = bytes L (largestCode L) < word
-
 -- a node of code suc d may stand at base: its code is one of the ladder, it is aligned, and usize has its end
 pub record NodeAt (L : Ladder) (d base : ℕ) : Type 0 where
-  pub code : suc d ≤ largestCode L
+  pub code : suc d ≤ largest-code L
   pub aligned : base % bytes L (suc d) ≡ 0
   pub ends : base + bytes L (suc d) < word
 

@@ -1,0 +1,88 @@
+-- The first sentence of demand 2: the original beside the tree store, driven by the same calls. The statement.
+use mathlib.Core.Path.{_≡_}
+use mathlib.Core.Bool.{Bool, true, false}
+use mathlib.Core.Option.{Option, none, some}
+use mathlib.Core.List.{List, [], _∷_}
+use Prim.Native.Nat.{ℕ, suc, _*_, _<_}
+use lib.Dec.{eqb}
+use Rattle.sizes.specs.Ladder.{Ladder, smallest, largest, bytes}
+use Rattle.model.specs.Ladder.{top}
+use Rattle.model.specs.Calls.{Call, seed, acquire, release, report, Answer, refused, stored, dealt, reported}
+use Rattle.model.specs.TreeStore.{State, fresh, step}
+use Rattle.model.specs.Rust.{if_then_else_, Ends, gives, _>>=_, word, Result, ok, err, mapOk}
+use Rattle.model.specs.StandIns.{Error, TooMuchMemory, OutOfPages, Page, init}
+use Rattle.model.specs.Original.{PageAllocator, emptyAllocator, «add_memory_region», «acquire_page», «release_pages»}
+
+-- the calls that may be made to the original: those that the store accepts, and those whose refusal, 3 of a seed and 8 of an acquire, is an error of the original too
+abbrev pub mayMake : Call → Answer → Bool
+mayMake (seed a e) (refused n) = eqb n 3
+mayMake (acquire c) (refused n) = eqb n 8
+mayMake (release b c) (refused n) = false
+mayMake report (refused n) = false
+mayMake c stored = true
+mayMake c (dealt b p) = true
+mayMake c (reported x y z) = true
+
+-- what the original tells its caller: nothing, a page, or an error
+abbrev pub Told : Type 0
+Told = Result (Option Page) Error
+
+module _ (L : Ladder) where
+  -- usize has the end of the largest page
+  abbrev pub Addressable : Type 0
+  Addressable = bytes L (largest L) < word
+
+  -- the address of a frame
+  abbrev pub address : ℕ → ℕ
+  address f = f * bytes L smallest
+
+  -- an allocator whose root has the largest size
+  abbrev pub Allocator : Type 0
+  Allocator = PageAllocator (suc (top L))
+
+  -- a call of the original; it has no report
+  unfoldable pub original : Call → Allocator → Ends (Told × Allocator)
+  original (seed a e) self = do
+    (result, next) ← «add_memory_region» L (suc (top L)) (address a) (address e) self
+    gives (mapOk (λ done. none) result, next)
+  original (acquire c) self = do
+    (result, next) ← «acquire_page» L (suc (top L)) c self
+    gives (mapOk some result, next)
+  original (release b c) self = do
+    next ← «release_pages» L (suc (top L)) (init (address b) c ∷ []) self
+    gives (ok none, next)
+  original report self = gives (ok none, self)
+
+  -- the store's answer in the original's words
+  abbrev pub told : Call → Answer → Told
+  told (seed a e) (refused n) = err TooMuchMemory
+  told (acquire c) (refused n) = err OutOfPages
+  told (release b c) (refused n) = ok none
+  told report (refused n) = ok none
+  told c stored = ok none
+  told (seed a e) (dealt b p) = ok none
+  told (acquire c) (dealt b p) = ok (some (init (address b) c))
+  told (release a c) (dealt b p) = ok none
+  told report (dealt b p) = ok none
+  told c (reported x y z) = ok none
+
+  -- for a tree store of at most `most` regions and a pool of n words, in the state s
+  module _ (most n : ℕ) where
+    -- what the original tells of the calls that may be made to it
+    unfoldable pub originals : List Call → State L → Allocator → Ends (List Told)
+    originals [] s self = gives []
+    originals (c ∷ cs) s self = let o = step L most n s c in if mayMake c (o .answer)
+        then (do
+          (result, next) ← original c self
+          results ← originals cs (o .state) next
+          gives (result ∷ results))
+        else originals cs (o .state) self
+
+    -- what the tree store tells of the same calls
+    unfoldable pub trees : List Call → State L → List Told
+    trees [] s = []
+    trees (c ∷ cs) s = let o = step L most n s c in if mayMake c (o .answer) then told c (o .answer) ∷ trees cs (o .state) else trees cs (o .state)
+
+    -- from an empty allocator on, the original never panics, and each page dealt and each 'out of pages' is the tree store's
+    abbrev pub AsOriginal : Type 0
+    AsOriginal = (cs : List Call) → originals cs (fresh L) (emptyAllocator (suc (top L))) ≡ gives (trees cs (fresh L))
