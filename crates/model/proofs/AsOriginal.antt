@@ -3,7 +3,7 @@ use mathlib.Core.Path.{_≡_, refl, sym, ap, _∙_}
 use mathlib.Core.Bool.{Bool, true, false, not, true≢false, false≢true}
 use mathlib.Core.Option.{none, some}
 use mathlib.Core.List.{List, [], _∷_}
-use Prim.Native.Nat.{ℕ, zero, suc, pred, _-_, _≤_}
+use Prim.Native.Nat.{ℕ, zero, suc, _<_, pred, _-_, _≤_}
 use native.Mathlib.Omega.{arith}
 use lib.Dec.{leb, ltb, eqb}
 use lib.ListN.{length}
@@ -11,10 +11,8 @@ use borrow.Author.Tests.{ltb-true, ltb-false, leb-false, eqb-true, eqb-false, no
 use Rattle.sizes.specs.Ladder.{Ladder}
 use Rattle.sizes.specs.Laws.{MultipliesUp}
 use Rattle.model.specs.Ladder.{frames, top}
-use Rattle.model.specs.Frames.{Wholly}
 use Rattle.model.specs.Calls.{Call, seed, acquire, release, report, refuse, verdict, Outcome, settle}
-use Rattle.model.specs.FrameStore.{bare}
-use Rattle.model.specs.Tree.{empty, largest, free, store, remove}
+use Rattle.model.specs.Tree.{empty, largest, store, remove}
 use Rattle.model.specs.TreeStore.{apart, seedFrom, State, fresh, picked, act, lacksRoom, tests, step}
 use Rattle.model.specs.Demands.{SoundState}
 use Rattle.model.specs.Rust.{gives, ok, err}
@@ -23,8 +21,8 @@ use Rattle.model.specs.Original.{emptyAllocator}
 use Rattle.model.specs.AsOriginal.{mayMake, Addressable, address, original, told, originals, trees, AsOriginal}
 use Rattle.model.proofs.Regions.{apart-iff}
 use Rattle.model.proofs.Seed.{anyFree-false}
-use Rattle.model.proofs.Demand2.{block-stands, stays-sound}
-use Rattle.model.proofs.Verdict.{Clear, clear}
+use Rattle.model.proofs.Demand2.{block-stands, unseeded-free, stays-sound}
+use Rattle.model.proofs.Verdict.{clear}
 use Rattle.model.proofs.Demand3.{fresh-sound}
 use Rattle.model.proofs.Picture.{allocator}
 use Rattle.model.proofs.OriginalPicture.{picture-empty}
@@ -59,18 +57,12 @@ module _ (L : Ladder) (m : MultipliesUp L) (w : Addressable L) (most n : ℕ) wh
   module _ (s : State L) (i : SoundState L most n s) where
     seed-accepted : (a e : ℕ) → verdict (tests L most n s (seed a e)) ≡ 0 → original L (seed a e) (allocator L (s .tree)) ≡ gives (ok none, allocator L (seedFrom L (e - a) (s .tree) a e))
     unfolding tests original
-    seed-accepted a e v = rw (add-is L m w a e (s .tree) (leb-false e a (t .0)) (ltb-false (frames L (top L)) e (t .1 .0)) (i .sound) bare)
-      where
-        t : Clear (tests L most n s (seed a e))
-        t = clear (tests L most n s (seed a e)) (omega arith) v
-
-        bare : Wholly (free L (top L) (s .tree)) a (e - a) false
-        bare f p q = outside (free L (top L) (s .tree) f) refl
-          where
-            outside : (x : Bool) → free L (top L) (s .tree) f ≡ x → free L (top L) (s .tree) f ≡ false
-            outside false x = x
-            outside true x = absurd (true≢false (sym (i .inside f (omega (arith, ltb-false (frames L (top L)) e (t .1 .0))) x)
-                ∙ apart-iff (frames L (top L)) a e (s .regions) (i .fit) (leb-false e a (t .0)) .0 (not-false (apart a e (s .regions)) (t .1 .1 .1 .0)) f p q))
+    seed-accepted a e v =
+        let t = clear (tests L most n s (seed a e)) (omega arith) v in
+        let some : a < e = leb-false e a (t .0) in
+        let ends : e ≤ frames L (top L) = ltb-false (frames L (top L)) e (t .1 .0) in
+        let none = apart-iff (frames L (top L)) a e (s .regions) (i .fit) some .0 (not-false (apart a e (s .regions)) (t .1 .1 .1 .0)) in
+        rw (add-is L m w a e (s .tree) some ends (i .sound) (unseeded-free L most n s i a (e - a) (omega arith) none))
 
     seed-refused : (a e : ℕ) → verdict (tests L most n s (seed a e)) ≡ 3 → original L (seed a e) (allocator L (s .tree)) ≡ gives (err TooMuchMemory, allocator L (s .tree))
     unfolding tests original

@@ -4,7 +4,7 @@ use mathlib.Core.Path.{_≡_, refl, sym, ap, _∙_}
 use mathlib.Core.Logic.{_↔_, _≢_}
 use mathlib.Core.Bool.{Bool, true, false, _&&_, not, cond, and-eq-true-iff, true≢false, false≢true}
 use mathlib.Core.List.{List, [], _∷_}
-use Prim.Native.Nat.{ℕ, zero, suc, _*_, _-_, _%_, _≤_, _<_}
+use Prim.Native.Nat.{ℕ, zero, suc, _+_, _*_, _-_, _%_, _≤_, _<_}
 use native.Mathlib.Omega.{arith}
 use native.Mathlib.Decide.{decLt}
 use native.Mathlib.Nat.{le-of-suc-le-suc}
@@ -60,6 +60,14 @@ module _ (L : Ladder) where
     aligned = eqb-true (b % frames L d) 0 (not-false (eqb (b % frames L d) 0) h);
     fits = omega (arith, frames-le L d (top L) deep, ltb-false (memory L - frames L d) b k);
   }
+
+  -- frames that are not seeded are not free
+  pub unseeded-free : (most n : ℕ) (s : State L) → SoundState L most n s → (b m : ℕ) → b + m ≤ memory L → Wholly (seeded (s .regions)) b m false → Wholly (free L (top L) (s .tree)) b m false
+  unseeded-free most n s i b m l x f p q = go (free L (top L) (s .tree) f) refl
+    where
+      go : (v : Bool) → free L (top L) (s .tree) f ≡ v → free L (top L) (s .tree) f ≡ false
+      go true y = absurd (true≢false (sym (i .inside f (omega arith) y) ∙ x f p q))
+      go false y = y
 
   -- what a call does where it is accepted is no refusal
   pub never-refused : (s : State L) (c : Call) (k : ℕ) → act L s c .answer ≢ refused k
@@ -179,7 +187,7 @@ module _ (L : Ladder) where
       unfolding act frameAct seeded
       act-seed a e l h m x =
           let F = free L (top L) (s .tree) in
-          let r = seed-done L (e - a) (s .tree) a e (e - a) (i .sound) (omega arith) h (omega arith) none in
+          let r = seed-done L (e - a) (s .tree) a e (e - a) (i .sound) (omega arith) h (omega arith) (unseeded-free most n s i a (e - a) (omega arith) x) in
           record {
             answer = refl;
             leaves = record { regions = ap {B = List Region} (λ rs. record { start = a; end = e } ∷ rs) (w .regions); frames = same-change (seedFrom L (e - a) (s .tree) a e) a (e - a) true (r .0) .frames };
@@ -192,13 +200,6 @@ module _ (L : Ladder) where
                   (λ y. painted (seeded (s .regions)) (memory L) a (e - a) true .inside) (painted-more a (e - a) (seeded (s .regions))) (r .0) (i .inside);
             };
           }
-        where
-          none : Wholly (free L (top L) (s .tree)) a (e - a) false
-          none f p q = go (free L (top L) (s .tree) f) refl
-            where
-              go : (v : Bool) → free L (top L) (s .tree) f ≡ v → free L (top L) (s .tree) f ≡ false
-              go true y = absurd (true≢false (sym (i .inside f (omega arith) y) ∙ x f p q))
-              go false y = y
 
       -- a sound tree with a block changed beside the same regions is a sound state
       sound-changed : (t : Tree (top L)) (b m : ℕ) (v : Bool) → (v ≡ true → Wholly (seeded (s .regions)) b m true) → Changed (free L (top L) (s .tree)) (free L (top L) t) (memory L) b m v

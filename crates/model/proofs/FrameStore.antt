@@ -12,6 +12,7 @@ use Rattle.sizes.specs.Ladder.{Ladder}
 use Rattle.model.specs.Ladder.{frames, top}
 use Rattle.model.specs.Frames.{Wholly, Lowest}
 use Rattle.model.specs.FrameStore.{allBelow, firstBelow, whole, bare, memory, blocks, lowestFree}
+use Rattle.model.specs.Laws.{BlockIn, FrameLaws}
 use Rattle.model.proofs.Ladder.{frames-pos}
 use Rattle.model.proofs.Free.{frames-mod}
 
@@ -128,3 +129,16 @@ module _ (L : Ladder) (g : ℕ → Bool) (d : ℕ) (deep : d ≤ top L) where
     whole = whole-iff g (lowestFree L g (suc d) * frames L d) (frames L d) .0 (lowestFree-first .passes h);
     lowest = λ b al k w. lowestFree-le b al k w .0;
   }
+
+-- the search of the frame store, for any code of the ladder
+pub frame-laws : (L : Ladder) (g : ℕ → Bool) (d : ℕ) → d ≤ top L → FrameLaws L g d
+frame-laws L g d deep = record {
+  found = lowestFree-lowest L g d deep;
+  none = (λ h b p w. omega (arith, lowestFree-le L g d deep b (p .aligned) (p .fits) w .1), λ h. go h (decLt (lowestFree L g (suc d)) (blocks L (suc d))));
+}
+  where
+    go : ((b : ℕ) → BlockIn L (top L) d b → Wholly g b (frames L d) true → ⊥) → Dec (lowestFree L g (suc d) < blocks L (suc d)) → blocks L (suc d) ≤ lowestFree L g (suc d)
+    go h (no l) = omega arith
+    go h (yes l) =
+        let q = lowestFree-lowest L g d deep l in
+        absurd (h (lowestFree L g (suc d) * frames L d) (record { deep = deep; aligned = q .aligned; fits = q .fits }) (q .whole))

@@ -23,4 +23,5 @@ pub mod OriginalStore
 pub mod OriginalTake
 pub mod OriginalSeed
 pub mod AsOriginal
+pub mod Six
 pub mod Cases

@@ -1,4 +1,4 @@
--- How many children an acquire looks at: at most the fan-outs of the levels that it descends; of the six sizes at most 1,412.
+-- How many children an acquire looks at: at most the fan-outs of the levels that it descends, and those that base and code say.
 use mathlib.Core.Path.{_≡_, refl, sym, ap, _∙_}
 use mathlib.Core.Bool.{Bool, true, false, cond, false≢true}
 use mathlib.Core.List.{List, [], _∷_}
@@ -8,12 +8,10 @@ use native.Mathlib.Nat.{mod-lt, zero-div, zero-mod}
 use lib.Dec.{leb, ltb}
 use lib.ListN.{length}
 use borrow.Author.Tests.{ltb-true, ltb-false, le-ltb, le-leb}
-use Rattle.sizes.specs.Ladder.{Ladder, largest as largest-code, fanOut}
-use Rattle.sizes.specs.Six.{six}
-use Rattle.model.specs.Ladder.{fan, frames, top, probes, fans}
+use Rattle.sizes.specs.Ladder.{Ladder}
+use Rattle.model.specs.Ladder.{fan, frames, probes, fans}
 use Rattle.model.specs.Lists.{maximum, first}
 use Rattle.model.specs.Tree.{node, Tree, token, empty, mark, child, largest, SoundNode, Sound, opened, handedOn, pick, looked}
-use Rattle.model.specs.Laws.{SixProbes}
 use Rattle.model.proofs.Ladder.{fan-pos, frames-pos}
 use Rattle.model.proofs.Range.{child-no, child-at}
 use Rattle.model.proofs.Lists.{First, first-first, getD-map-lt}
@@ -117,12 +115,3 @@ module _ (L : Ladder) where
           let q = pick-lowest L d d' (child d ks i) (s .children i) (w .reaches) in
           let l : p < frames L d = omega (arith, q .fits, frames-pos L d') in
           rw (e, looked, probes, pick, opened-same d ks (omega (arith, h)), f, child-no (frames L d) (i * frames L d + p) i p refl l, child-at (frames L d) (i * frames L d + p) i p refl l) (omega (arith, ih i (w .reaches)))
-
--- the fan-outs of the six sizes add up to 1,412
-pub fans-six : fans six (top six) 0 ≡ 1412
-unfolding fans fan top largest-code fanOut
-fans-six = refl
-
--- no probe count of the six sizes is higher
-pub probes-six : SixProbes
-probes-six d' b h = omega (arith, probes-fans six (top six) d' b h, fans-antitone six (top six) 0 d' zero-le, fans-six)

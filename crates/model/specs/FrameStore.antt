@@ -21,20 +21,17 @@ unfoldable pub firstBelow : (ℕ → Bool) → ℕ → ℕ
 firstBelow p zero = 0
 firstBelow p (suc n) = cond (p 0) 0 (suc (firstBelow (λ i. p (suc i)) n))
 
--- every frame of the block is in g, none is
+-- every frame of the block of s frames at b is in g, none is
 unfoldable pub whole : (ℕ → Bool) → (b s : ℕ) → Bool
 whole g b s = allBelow (λ j. g (b + j)) s
 
 unfoldable pub bare : (ℕ → Bool) → (b s : ℕ) → Bool
 bare g b s = allBelow (λ j. not (g (b + j))) s
 
+-- which frames are free, and the regions
 pub record Frames : Type 0 where
   pub free : ℕ → Bool
   pub regions : List Region
-
--- the frames of a store that is not seeded
-abbrev pub noFrames : Frames
-noFrames = record { free = λ f. false; regions = [] }
 
 module _ (L : Ladder) where
   -- the frames of memory, of a block of the code

@@ -9,6 +9,7 @@ use Rattle.sizes.specs.Six.{six}
 use Rattle.model.specs.Ladder.{fan, frames, top, probes, fans}
 use Rattle.model.specs.Frames.{Wholly, Changed, Lowest, count}
 use Rattle.model.specs.Calls.{Region, seeded}
+use Rattle.model.specs.FrameStore.{memory, blocks, lowestFree}
 use Rattle.model.specs.Tree.{Tree, largest, free, freeFrames, Sound, store, remove, pick, looked}
 use Rattle.model.specs.TreeStore.{covered, apart, anyFree, seedFrom}
 
@@ -40,6 +41,11 @@ module _ (L : Ladder) where
     pub deep : d' ≤ d
     pub aligned : b % frames L d' ≡ 0
     pub fits : b + frames L d' ≤ frames L d
+
+  -- what the frame store's search for a block of code suc d finds: the lowest wholly free one, and nothing exactly if there is none
+  pub record FrameLaws (g : ℕ → Bool) (d : ℕ) : Type 0 where
+    pub found : lowestFree L g (suc d) < blocks L (suc d) → Lowest g (memory L) (frames L d) (lowestFree L g (suc d) * frames L d)
+    pub none : (blocks L (suc d) ≤ lowestFree L g (suc d)) ↔ ((b : ℕ) → BlockIn (top L) d b → Wholly g b (frames L d) true → ⊥)
 
   -- t' is sound and has the block's frames set to v, all others as in t
   pub record Made (d d' b : ℕ) (v : Bool) (t t' : Tree d) : Type 0 where
