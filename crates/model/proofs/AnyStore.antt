@@ -12,11 +12,9 @@ use Rattle.sizes.specs.Ladder.{Ladder}
 use Rattle.model.specs.Frames.{Wholly, bit}
 use Rattle.model.specs.Calls.{Region, seeded, Fits, Regions, Call, seed, acquire, release, report, Answer, refused, stored, dealt, reported, verdict, Outcome, settle}
 use Rattle.model.specs.FrameStore.{Frames, memory, size, lowestFree, Same, frameAct, refusals, frameStep}
-use Rattle.model.specs.TreeStore.{fresh, step}
-use Rattle.model.specs.Runs.{Run, reckon, start, next, run, reseed, Roomy}
-use Rattle.model.specs.Demands.{shown}
+use Rattle.model.specs.Runs.{Run, start, reckon, next, run, reseed, Roomy}
 use Rattle.model.proofs.Frames.{bit-zero, bit-one}
-use Rattle.model.proofs.FrameStore.{bare-iff}
+use Rattle.model.proofs.FrameStore.{bare-iff, same-self}
 use Rattle.model.proofs.FrameRuns.{dealable, Split, free-unheld, split-act}
 
 never : _≡_ {A = ℕ} 0 1 → ⊥
@@ -62,16 +60,13 @@ module _ (L : Ladder) (most : ℕ) where
     pub leaves : (s : S) (g : Frames) → Good s → Same L (shown s) g → (c : Call) → step s c .answer ≢ refused 9 → Same L (shown (step s c .state)) (frameStep L most g c .state)
     pub stays : (s : S) → Good s → (c : Call) → step s c .answer ≡ refused 9 → step s c .state ≡ s
 
-  same-self : (g : Frames) → Same L g g
-  same-self g = record { regions = refl; frames = λ f l. refl }
-
   module _ {S : Type 0} (fresh : S) (step : S → Call → Outcome S) (shown : S → Frames) (Good : S → Type 0) (a : Answers step shown Good) where
     -- what a run keeps
     pub record Inv (r : Run S) : Type 0 where
       pub good : Good (r .state)
       pub split : Split L (shown (r .state)) (r .held)
 
-    pub inv-next : (r : Run S) → Inv r → (c : Call) → Inv (next L fresh step r c)
+    inv-next : (r : Run S) → Inv r → (c : Call) → Inv (next L step r c)
     inv-next r i c = record { good = a .keeps (r .state) (i .good) c; split = go (nine (step (r .state) c .answer)) }
       where
         s : S
@@ -79,19 +74,19 @@ module _ (L : Ladder) (most : ℕ) where
 
         go : Dec (step (r .state) c .answer ≡ refused 9) → Split L (shown (step (r .state) c .state)) (reckon L c (step (r .state) c .answer) (r .held))
         go (yes e) = rw (e, a .stays (r .state) (i .good) c e, reckon-refused c 9 (r .held)) (i .split)
-        go (no e) = rw (a .answer (r .state) (shown (r .state)) (i .good) (same-self (shown (r .state))) c e)
+        go (no e) = rw (a .answer (r .state) (shown (r .state)) (i .good) (same-self L (shown (r .state))) c e)
             (split-same (shown (step (r .state) c .state)) (frameStep L most (shown (r .state)) c .state) (reckon L c (frameStep L most (shown (r .state)) c .answer) (r .held))
-            (a .leaves (r .state) (shown (r .state)) (i .good) (same-self (shown (r .state))) c e) (split-step (shown (r .state)) (r .held) (i .split) c))
+            (a .leaves (r .state) (shown (r .state)) (i .good) (same-self L (shown (r .state))) c e) (split-step (shown (r .state)) (r .held) (i .split) c))
 
-    pub inv-run : (cs : List Call) (r : Run S) → Inv r → Inv (run L fresh step cs r)
+    pub inv-run : (cs : List Call) (r : Run S) → Inv r → Inv (run L step r cs)
     unfolding run
     inv-run [] r i = i
-    inv-run (c ∷ cs) r i = inv-run cs (next L fresh step r c) (inv-next r i c)
+    inv-run (c ∷ cs) r i = inv-run cs (next L step r c) (inv-next r i c)
 
     -- no acquire deals a held frame
     pub deals-unheld : (r : Run S) → Inv r → (c b p : ℕ) → step (r .state) (acquire c) .answer ≡ dealt b p → Wholly (r .held) b (size L c) false
     unfolding frameStep frameAct
-    deals-unheld r i c b p e = go (verdict (refusals L most g (acquire c))) refl (sym (a .answer (r .state) g (i .good) (same-self g) (acquire c) (λ z. never cc)) ∙ e)
+    deals-unheld r i c b p e = go (verdict (refusals L most g (acquire c))) refl (sym (a .answer (r .state) g (i .good) (same-self L g) (acquire c) (λ z. never cc)) ∙ e)
       where
         g : Frames
         g = shown (r .state)
@@ -117,12 +112,12 @@ module _ (L : Ladder) (most : ℕ) where
     settled-answer r i e c z = a .answer (r .state) (record { free = seeded (shown (r .state) .regions); regions = shown (r .state) .regions }) (i .good) (unheld-free r i e) c z
 
     -- seeding anew: it holds nothing, keeps what a run keeps, and takes all regions unless it lacks pool room
-    pub reseed-inv : Inv (start L fresh step) → (rs : List Region) → Inv (reseed L fresh step rs)
+    pub reseed-inv : Inv (start fresh) → (rs : List Region) → Inv (reseed L step fresh rs)
     unfolding reseed
     reseed-inv i [] = i
-    reseed-inv i (r ∷ rs) = inv-next (reseed L fresh step rs) (reseed-inv i rs) (seed (r .start) (r .end))
+    reseed-inv i (r ∷ rs) = inv-next (reseed L step fresh rs) (reseed-inv i rs) (seed (r .start) (r .end))
 
-    pub reseed-held : (rs : List Region) (f : ℕ) → reseed L fresh step rs .held f ≡ false
+    pub reseed-held : (rs : List Region) (f : ℕ) → reseed L step fresh rs .held f ≡ false
     unfolding reseed
     reseed-held [] f = refl
     reseed-held (r ∷ rs) f = reseed-held rs f
@@ -132,12 +127,12 @@ module _ (L : Ladder) (most : ℕ) where
     unfolding frameStep frameAct refusals
     takes g r k l = rw (lt-leb (r .end) (r .start) (k .some), le-ltb (memory L) (r .end) (k .ends), lt-leb most (length (g .regions)) l, bare-iff (seeded (g .regions)) (r .start) (r .end - r .start) .1 (k .alone)) refl
 
-    pub reseed-regions : Inv (start L fresh step) → shown fresh .regions ≡ [] → (rs : List Region) → Regions (memory L) rs → length rs ≤ most → Roomy L fresh step rs → shown (reseed L fresh step rs .state) .regions ≡ rs
+    pub reseed-regions : Inv (start fresh) → shown fresh .regions ≡ [] → (rs : List Region) → Regions (memory L) rs → length rs ≤ most → Roomy L step fresh rs → shown (reseed L step fresh rs .state) .regions ≡ rs
     unfolding reseed
     reseed-regions i e [] k l m = e
     reseed-regions i e (r ∷ rs) k l m =
-        let q = reseed L fresh step rs in
+        let q = reseed L step fresh rs in
         let g = shown (q .state) in
         let ih : g .regions ≡ rs = reseed-regions i e rs (k .1) (omega arith) (m .0) in
-        a .leaves (q .state) g (reseed-inv i rs .good) (same-self g) (seed (r .start) (r .end)) (m .1) .regions
+        a .leaves (q .state) g (reseed-inv i rs .good) (same-self L g) (seed (r .start) (r .end)) (m .1) .regions
         ∙ takes g r (subst (Fits (memory L) r) (sym ih) (k .0)) (rw ih (omega arith)) ∙ ap (λ (xs : List Region). r ∷ xs) ih

@@ -14,14 +14,15 @@ use Rattle.model.specs.Ladder.{frames, top}
 use Rattle.model.specs.Calls.{Call, seed, acquire, release, report, refuse, verdict, Outcome, settle}
 use Rattle.model.specs.Tree.{empty, largest, store, remove}
 use Rattle.model.specs.TreeStore.{apart, seedFrom, State, fresh, picked, act, lacksRoom, tests, step}
-use Rattle.model.specs.Demands.{SoundState}
-use Rattle.model.specs.Rust.{gives, ok, err}
+use Rattle.model.specs.Demands.{shown, SoundState}
+use Rattle.model.specs.Rust.{_>>=_, gives, ok, err}
 use Rattle.model.specs.StandIns.{TooMuchMemory, OutOfPages, init}
 use Rattle.model.specs.Original.{emptyAllocator}
 use Rattle.model.specs.AsOriginal.{mayMake, Addressable, address, original, told, originals, trees, AsOriginal}
 use Rattle.model.proofs.Regions.{apart-iff}
 use Rattle.model.proofs.Seed.{anyFree-false}
-use Rattle.model.proofs.Demand2.{block-stands, unseeded-free, stays-sound}
+use Rattle.model.proofs.FrameStore.{same-self, block-stands}
+use Rattle.model.proofs.Demand2.{unseeded-free, demand2}
 use Rattle.model.proofs.Verdict.{clear}
 use Rattle.model.proofs.Demand3.{fresh-sound}
 use Rattle.model.proofs.Picture.{allocator}
@@ -122,7 +123,7 @@ module _ (L : Ladder) (m : MultipliesUp L) (w : Addressable L) (most n : ℕ) wh
   same-calls : (cs : List Call) (s : State L) → SoundState L most n s → originals L most n cs s (allocator L (s .tree)) ≡ gives (trees L most n cs s)
   unfolding originals trees
   same-calls [] s i = refl
-  same-calls (c ∷ cs) s i = go (mayMake c (step L most n s c .answer)) refl (same-call s i c) (same-calls cs (step L most n s c .state) (stays-sound L most n s i c))
+  same-calls (c ∷ cs) s i = go (mayMake c (step L most n s c .answer)) refl (same-call s i c) (same-calls cs (step L most n s c .state) (demand2 L most n s (shown L s) i (same-self L (shown L s)) c .keeps))
     where
       go : (x : Bool) → mayMake c (step L most n s c .answer) ≡ x → SameCall s c (step L most n s c)
           → originals L most n cs (step L most n s c .state) (allocator L (step L most n s c .state .tree)) ≡ gives (trees L most n cs (step L most n s c .state))
@@ -130,5 +131,5 @@ module _ (L : Ladder) (m : MultipliesUp L) (w : Addressable L) (most n : ℕ) wh
       go true x k ih = rw (x, k .agrees x, ih)
       go false x k ih = rw x (ap (λ u. originals L most n cs (step L most n s c .state) (allocator L (u .tree))) (sym (k .stays x)) ∙ ih)
 
-  pub as-original : 1 ≤ n → AsOriginal L most n
-  as-original l cs = rw (← (allocator-empty L)) (same-calls cs (fresh L) (fresh-sound L most n l))
+pub as-original : (L : Ladder) (most n : ℕ) → AsOriginal L most n
+as-original L most n m w l cs = rw (← (allocator-empty L)) (same-calls L m w most n cs (fresh L) (fresh-sound L most n l))

@@ -1,4 +1,4 @@
--- The journals of `specs/Cases`, computed.
+-- The journals of `specs/Cases`, computed. Assumes nothing.
 use mathlib.Core.Path.{refl}
 use Rattle.sizes.specs.Ladder.{largest as largest-code, fanOut, bytes, smaller, larger}
 use Rattle.model.specs.Ladder.{fan, frames, top, probes}
@@ -9,7 +9,7 @@ use Rattle.model.specs.Rust.{word, element, position, maxOfAll, mapColle
 use Rattle.model.specs.StandIns.{divide, mergePages}
 use Rattle.model.specs.Original.{«store_page_token_in_this_node», «acquire_page_token_from_this_node», «find_largest_page_size», «initialize_children_if_needed», «calculate_child_index», «divide_page_token_if_necessary», «try_to_merge_page_tokens», «child_address_and_size», «store_page_token», «acquire_page_token», regionLoop, «add_memory_region», «acquire_page», «release_pages»}
 use Rattle.model.specs.AsOriginal.{original, originals}
-use Rattle.model.specs.Cases.{OriginalJournal, OriginalDrained, OriginalParts, linesFrom, Journal, Cascade, Lowest, Inside, Touching, LastFrame, TooShort, JustFits}
+use Rattle.model.specs.Cases.{OriginalJournal, OriginalDrained, OriginalParts, linesFrom, Journal, Cascade, LowestFirst, Inside, Touching, LastFrame, TooShort, JustFits}
 
 pub journal : Journal
 unfolding linesFrom largest-code fanOut fan frames top probes maximum sum all first largest words merge freeFrames opened handedOn store remove pick anyFree largestFit seedFrom used act tests step
@@ -19,9 +19,9 @@ pub cascade : Cascade
 unfolding linesFrom largest-code fanOut fan frames top probes maximum sum all first largest words merge freeFrames opened handedOn store remove pick anyFree largestFit seedFrom used act tests step
 cascade = refl
 
-pub lowest : Lowest
+pub lowest-first : LowestFirst
 unfolding linesFrom largest-code fanOut fan frames top probes maximum sum all first largest words merge freeFrames opened handedOn store remove pick anyFree largestFit seedFrom used act tests step
-lowest = refl
+lowest-first = refl
 
 pub inside : Inside
 unfolding linesFrom largest-code fanOut fan frames top probes maximum sum all first largest words merge freeFrames opened handedOn store remove pick anyFree largestFit seedFrom used act tests step

@@ -1,4 +1,4 @@
--- What a take and a store do to the free frames, and that they keep the tree sound.
+-- What a take and a store do to the free frames, and that they keep the tree sound. Assumes nothing.
 use mathlib.Core.Path.{_≡_, refl, sym, _∙_}
 use mathlib.Core.Logic.{_⊎_, inl, inr, _≢_}
 use mathlib.Core.Bool.{Bool, true, false, true≢false, false≢true}
@@ -16,18 +16,18 @@ use Rattle.model.specs.Ladder.{fan, frames}
 use Rattle.model.specs.Frames.{Wholly, Changed}
 use Rattle.model.specs.Lists.{maximum, all}
 use Rattle.model.specs.Tree.{node, Tree, token, empty, mark, child, largest, merge, free, SoundNode, Sound, opened, handedOn, store, remove}
-use Rattle.model.specs.Laws.{BlockIn}
+use Rattle.model.specs.Laws.{BlockIn, Made}
 use Rattle.model.proofs.Ladder.{fan-pos, frames-pos, frames-dvd}
 use Rattle.model.proofs.Range.{low-aligned, low-fits, changed-node, block-in}
 use Rattle.model.proofs.Frames.{changed-whole, changed-agree}
 use Rattle.model.proofs.Lists.{maximum-zero, all-true, all-false, getD-rep, getD-map-lt}
 use Rattle.model.proofs.Free.{largest-empty, largest-child, token-free, quiet-free, not-full, frames-le, none-quiet}
 
-pub token-mark : (d : ℕ) (v : Bool) (t : Tree d) → token d (mark d v t) ≡ v
+token-mark : (d : ℕ) (v : Bool) (t : Tree d) → token d (mark d v t) ≡ v
 token-mark zero v t = refl
 token-mark (suc d) v (node u ks) = refl
 
-pub token-empty : (d : ℕ) → token d (empty d) ≡ false
+token-empty : (d : ℕ) → token d (empty d) ≡ false
 token-empty zero = refl
 token-empty (suc d) = refl
 
@@ -69,14 +69,14 @@ module _ (L : Ladder) where
   sound-empty (suc d) = record { shape = inl refl; children = λ i. sound-empty d; quiet = λ e. refl; gap = (0, fan-pos L d, token-empty d) }
 
   -- a sound node that offers nothing may get a token; any sound node may lose its token
-  pub sound-mark : (d : ℕ) (v : Bool) (t : Tree d) → Sound L d t → (v ≡ true → largest d t ≡ 0) → Sound L d (mark d v t)
+  sound-mark : (d : ℕ) (v : Bool) (t : Tree d) → Sound L d t → (v ≡ true → largest d t ≡ 0) → Sound L d (mark d v t)
   unfolding largest
   sound-mark zero v t s e = tt
   sound-mark (suc d) v (node true ks) s e = record { shape = s .shape; children = s .children; quiet = λ q. s .quiet refl; gap = s .gap }
   sound-mark (suc d) v (node false ks) s e = record { shape = s .shape; children = s .children; quiet = e; gap = s .gap }
 
   -- a sound token node that loses its token offers nothing
-  pub unmark-quiet : (d : ℕ) (t : Tree d) → Sound L d t → token d t ≡ true → largest d (mark d false t) ≡ 0
+  unmark-quiet : (d : ℕ) (t : Tree d) → Sound L d t → token d t ≡ true → largest d (mark d false t) ≡ 0
   unfolding largest
   unmark-quiet zero t s e = refl
   unmark-quiet (suc d) (node true ks) s e = s .quiet refl
@@ -104,7 +104,7 @@ module _ (L : Ladder) where
       go (no l) = rw (List·getD-eq-default (map (mark d true) (opened L d ks)) (empty d) {n = i} (omega (arith, length-map (opened L d ks) (mark d true)))) (sound-empty d)
 
   -- a take leaves no token on the node
-  pub remove-token : (d d' : ℕ) (t : Tree d) (b : ℕ) → token d (remove L d d' t b) ≡ false
+  remove-token : (d d' : ℕ) (t : Tree d) (b : ℕ) → token d (remove L d d' t b) ≡ false
   unfolding remove
   remove-token zero d' t b = refl
   remove-token (suc d) d' (node v ks) b = go (ltb d' (suc d)) refl
@@ -112,10 +112,6 @@ module _ (L : Ladder) where
       go : (x : Bool) → ltb d' (suc d) ≡ x → token (suc d) (remove L (suc d) d' (node v ks) b) ≡ false
       go true e = rw (e, remove)
       go false e = rw (e, remove)
-
-  -- what is to be shown of a change of t into t' that sets the frames of a block to v
-  abbrev pub Makes : (d d' : ℕ) → Bool → Tree d → ℕ → Tree d → Type 0
-  Makes d d' v t b t' = Changed (free L d t) (free L d t') (frames L d) b (frames L d') v × Sound L d t'
 
   -- child b / frames d is replaced by a changed one
   module _ (d d' b : ℕ) (v : Bool) (ks : List (Tree d)) (len : length ks ≡ fan L (suc d)) (p : BlockIn L (suc d) d' b) (l : d' < suc d) where
@@ -143,7 +139,7 @@ module _ (L : Ladder) where
     block-child w h = block-in (frames L d) (frames L d') b (frames-pos L d) (frames-dvd L d' d (omega arith)) (p .aligned) (λ j. free L d (child d ks j)) w h
 
   -- a node that has all its frames free is a token node; taken whole it offers nothing
-  pub remove-top : (d d' b : ℕ) (v : Bool) (ks : List (Tree d)) → SoundNode L d (Sound L d) v ks → BlockIn L (suc d) d' b → suc d ≤ d' → Wholly (free L (suc d) (node v ks)) b (frames L d') true → Makes (suc d) d' false (node v ks) b (node false ks)
+  remove-top : (d d' b : ℕ) (v : Bool) (ks : List (Tree d)) → SoundNode L d (Sound L d) v ks → BlockIn L (suc d) d' b → suc d ≤ d' → Wholly (free L (suc d) (node v ks)) b (frames L d') true → Made L (suc d) d' false (node v ks) b (node false ks)
   unfolding largest
   remove-top d d' b true ks s p l h = (
     changed-whole (free L (suc d) (node true ks)) (free L (suc d) (node false ks)) (frames L (suc d)) b (frames L d') false (p .fits) (frames-le L (suc d) d' l)
@@ -155,7 +151,7 @@ module _ (L : Ladder) where
       absurd (false≢true (sym (x .2) ∙ h (x .0) (omega (arith, p .fits, frames-le L (suc d) d' l)) (omega (arith, x .1, frames-le L (suc d) d' l))))
 
   -- a take of a wholly free block: its frames are free no more, all else stays, and the tree stays sound
-  pub remove-done : (d d' : ℕ) (t : Tree d) (b : ℕ) → Sound L d t → BlockIn L d d' b → Wholly (free L d t) b (frames L d') true → Makes d d' false t b (remove L d d' t b)
+  pub remove-done : (d d' : ℕ) (t : Tree d) (b : ℕ) → Sound L d t → BlockIn L d d' b → Wholly (free L d t) b (frames L d') true → Made L d d' false t b (remove L d d' t b)
   unfolding remove free
   remove-done zero d' t b s p h = (changed-whole (free L 0 t) (free L 0 false) (frames L 0) b (frames L d') false (p .fits) (frames-le L 0 d' zero-le) (λ f. refl), tt)
   remove-done (suc d) d' (node v ks) b s p h = go (ltb d' (suc d)) refl (remove-done d d')
@@ -173,8 +169,8 @@ module _ (L : Ladder) where
       here = child-lt d b (omega (arith, p .fits, frames-pos L d'))
 
       go : (x : Bool) → ltb d' (suc d) ≡ x
-          → ((t : Tree d) (c : ℕ) → Sound L d t → BlockIn L d d' c → Wholly (free L d t) c (frames L d') true → Makes d d' false t c (remove L d d' t c))
-          → Makes (suc d) d' false (node v ks) b (remove L (suc d) d' (node v ks) b)
+          → ((t : Tree d) (c : ℕ) → Sound L d t → BlockIn L d d' c → Wholly (free L d t) c (frames L d') true → Made L d d' false t c (remove L d d' t c))
+          → Made L (suc d) d' false (node v ks) b (remove L (suc d) d' (node v ks) b)
       go false e ih = rw (e, remove) (remove-top d d' b v ks s p (ltb-false d' (suc d) e) h)
       go true e ih = rw (e, remove) (
         changed-agree (free L (suc d) (node false P)) (free L (suc d) t') (free L (suc d) (node v ks)) (free L (suc d) t') (frames L (suc d)) b (frames L d') false (p .fits)
@@ -196,12 +192,12 @@ module _ (L : Ladder) where
           l : d' < suc d
           l = ltb-true d' (suc d) e
 
-          r : Makes d d' false (child d P (b / n)) (b % n) R
+          r : Made L d d' false (child d P (b / n)) (b % n) R
           r = ih (child d P (b / n)) (b % n) (handedOn-sound d v ks s (b / n)) (place-down d d' b p l)
               (block-child d d' b false P len p l true (λ f x y. handedOn-free d v ks s f (omega (arith, p .fits)) ∙ h f x y))
 
   -- merging changes no frame, and the merged node is sound
-  pub merge-done : (d : ℕ) (ks : List (Tree d)) → length ks ≡ fan L (suc d) → ((i : ℕ) → Sound L d (child d ks i))
+  merge-done : (d : ℕ) (ks : List (Tree d)) → length ks ≡ fan L (suc d) → ((i : ℕ) → Sound L d (child d ks i))
       → ((f : ℕ) → f < frames L (suc d) → free L (suc d) (merge d ks) f ≡ free L (suc d) (node false ks) f) × Sound L (suc d) (merge d ks)
   unfolding free merge
   merge-done d ks len s = go (all (token d) ks) refl
@@ -245,7 +241,7 @@ module _ (L : Ladder) where
           quiet i (no h) = rw (past i h) (largest-empty d)
 
   -- a store of a block none of whose frames is free: its frames are free, all else stays, and the tree stays sound
-  pub store-done : (d d' : ℕ) (t : Tree d) (b : ℕ) → Sound L d t → BlockIn L d d' b → Wholly (free L d t) b (frames L d') false → Makes d d' true t b (store L d d' t b)
+  pub store-done : (d d' : ℕ) (t : Tree d) (b : ℕ) → Sound L d t → BlockIn L d d' b → Wholly (free L d t) b (frames L d') false → Made L d d' true t b (store L d d' t b)
   unfolding store free largest handedOn
   store-done zero d' t b s p h = (changed-whole (free L 0 t) (free L 0 true) (frames L 0) b (frames L d') true (p .fits) (frames-le L 0 d' zero-le) (λ f. refl), tt)
   store-done (suc d) d' (node true ks) b s p h = absurd (true≢false (h b (omega arith) (omega (arith, frames-pos L d'))))
@@ -261,8 +257,8 @@ module _ (L : Ladder) where
       len = opened-length d ks (s .shape)
 
       go : (x : Bool) → ltb d' (suc d) ≡ x
-          → ((t : Tree d) (c : ℕ) → Sound L d t → BlockIn L d d' c → Wholly (free L d t) c (frames L d') false → Makes d d' true t c (store L d d' t c))
-          → Makes (suc d) d' true (node false ks) b (store L (suc d) d' (node false ks) b)
+          → ((t : Tree d) (c : ℕ) → Sound L d t → BlockIn L d d' c → Wholly (free L d t) c (frames L d') false → Made L d d' true t c (store L d d' t c))
+          → Made L (suc d) d' true (node false ks) b (store L (suc d) d' (node false ks) b)
       go false e ih = let l = frames-le L (suc d) d' (ltb-false d' (suc d) e) in rw (e, store) (
         changed-whole (free L (suc d) (node false ks)) (free L (suc d) (node true ks)) (frames L (suc d)) b (frames L d') true (p .fits) l (λ f. refl),
         record {
@@ -287,7 +283,7 @@ module _ (L : Ladder) where
           l : d' < suc d
           l = ltb-true d' (suc d) e
 
-          r : Makes d d' true (child d O (b / n)) (b % n) R
+          r : Made L d d' true (child d O (b / n)) (b % n) R
           r = ih (child d O (b / n)) (b % n) (handedOn-sound d false ks s (b / n)) (place-down d d' b p l)
               (block-child d d' b true O len p l false (λ f x y. handedOn-free d false ks s f (omega (arith, p .fits)) ∙ h f x y))
 

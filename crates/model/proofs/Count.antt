@@ -1,4 +1,4 @@
--- The number of free frames: as a count over the frames, and as a sum over the tree.
+-- The number of free frames: as a count over the frames, and as a sum over the tree. Assumes nothing.
 use mathlib.Core.Path.{_≡_, refl, sym, ap, _∙_}
 use mathlib.Core.Logic.{_⊎_, ⊎-elim}
 use mathlib.Core.Bool.{Bool, true, false}
@@ -12,14 +12,14 @@ use Rattle.sizes.specs.Ladder.{Ladder}
 use Rattle.model.specs.Ladder.{fan, frames}
 use Rattle.model.specs.Frames.{Wholly, count}
 use Rattle.model.specs.Lists.{sum}
-use Rattle.model.specs.Tree.{node, Tree, empty, child, words, free, freeFrames, Sound, store, remove}
+use Rattle.model.specs.Tree.{node, Tree, empty, child, free, freeFrames, Sound, store, remove}
 use Rattle.model.specs.Laws.{BlockIn}
 use Rattle.model.proofs.Ladder.{frames-pos}
 use Rattle.model.proofs.Frames.{count-same, count-all, count-append, count-stored, count-taken}
 use Rattle.model.proofs.Free.{largest-empty, quiet-free}
 use Rattle.model.proofs.Change.{remove-done, store-done}
 
-unfoldable pub sumTo : (ℕ → ℕ) → ℕ → ℕ
+unfoldable sumTo : (ℕ → ℕ) → ℕ → ℕ
 sumTo h zero = 0
 sumTo h (suc m) = h 0 + sumTo (λ i. h (suc i)) m
 
@@ -38,12 +38,6 @@ sum-list : {A : Type 0} (g : A → ℕ) (h : ℕ → ℕ) (xs : List A) (z : A) 
 unfolding sum sumTo
 sum-list g h [] z e = refl
 sum-list g h (x ∷ xs) z e = omega (arith, e 0, sum-list g (λ i. h (suc i)) xs z (λ i. e (suc i)))
-
--- an empty node takes no words
-pub words-empty : (d : ℕ) → words d (empty d) ≡ 0
-unfolding words
-words-empty zero = refl
-words-empty (suc d) = refl
 
 module _ (L : Ladder) where
   -- the sum over the tree is the count over the frames

@@ -4,29 +4,29 @@ use mathlib.Core.Path.{_≡_, refl, sym, ap, _∙_}
 use mathlib.Core.Logic.{_↔_, _≢_}
 use mathlib.Core.Bool.{Bool, true, false, _&&_, not, cond, and-eq-true-iff, true≢false, false≢true}
 use mathlib.Core.List.{List, [], _∷_}
-use Prim.Native.Nat.{ℕ, zero, suc, _+_, _*_, _-_, _%_, _≤_, _<_}
+use Prim.Native.Nat.{ℕ, zero, suc, _+_, _*_, _-_, _≤_, _<_}
 use native.Mathlib.Omega.{arith}
 use native.Mathlib.Decide.{decLt}
 use native.Mathlib.Nat.{le-of-suc-le-suc}
-use lib.Dec.{leb, ltb, eqb}
+use lib.Dec.{leb, ltb}
 use lib.ListN.{length}
-use borrow.Author.Tests.{ltb-true, ltb-false, leb-false, eqb-true, le-ltb, not-false}
+use borrow.Author.Tests.{ltb-true, ltb-false, leb-false, le-ltb, not-false}
 use Rattle.sizes.specs.Ladder.{Ladder}
 use Rattle.model.specs.Ladder.{frames, top}
 use Rattle.model.specs.Frames.{Wholly, Changed, paint, count}
-use Rattle.model.specs.Calls.{Region, seeded, Call, seed, acquire, release, report, refused, Test, refuse, verdict, settle}
+use Rattle.model.specs.Calls.{Region, seeded, Call, seed, acquire, release, report, refused, Test, refuse, verdict}
 use Rattle.model.specs.FrameStore.{whole, bare, Frames, memory, blocks, lowestFree, largestFree, Same, frameAct, refusals, frameStep}
 use Rattle.model.specs.Tree.{Tree, largest, free, freeFrames, Sound, store, remove, pick}
 use Rattle.model.specs.TreeStore.{covered, apart, seededFrames, anyFree, seedFrom, used, State, act, lacksRoom, tests, step}
 use Rattle.model.specs.Laws.{BlockIn}
-use Rattle.model.specs.Demands.{SoundState, shown, AsFrames, Demand2}
+use Rattle.model.specs.Demands.{shown, SoundState, AsFrames, Demand2}
 use Rattle.model.proofs.Frames.{changed-same, painted, painted-more, inside-changed, count-same}
-use Rattle.model.proofs.Free.{largest-le, lowest-same, block-largest, frames-le, pick-lowest}
+use Rattle.model.proofs.Free.{largest-le, lowest-same, block-largest, pick-lowest}
 use Rattle.model.proofs.Change.{remove-done, store-done}
 use Rattle.model.proofs.Count.{freeFrames-count}
 use Rattle.model.proofs.Regions.{apart-iff, seeded-count, covered-iff}
 use Rattle.model.proofs.Seed.{seed-done, anyFree-false, anyFree-true}
-use Rattle.model.proofs.FrameStore.{same-test, same-order, whole-iff, bare-iff, not-bare, lowestFree-le, lowestFree-lowest}
+use Rattle.model.proofs.FrameStore.{same-test, same-order, whole-iff, bare-iff, not-bare, lowestFree-le, lowestFree-lowest, block-stands}
 
 -- a tree's tests beside the frame store's: each pair says the same once the earlier ones have passed; past them all the tree may test for room, which w says is missing, and P holds
 data Beside (w : Bool) (P : Type 0) : List Test → List Test → Type 0 where
@@ -53,14 +53,6 @@ both-verdicts w P ts us (pair {x = false} {y = true} k b e r) = absurd (false≢
 both-verdicts w P ts us (pair {ts = ts'} {us = us'} {x = false} {y = false} k b e r) = both-verdicts w P ts' us' (r refl)
 
 module _ (L : Ladder) where
-  -- a block that passes tests 1 to 3 of a release stands in memory
-  pub block-stands : (b d : ℕ) → d ≤ top L → not (eqb (b % frames L d) 0) ≡ false → ltb (memory L - frames L d) b ≡ false → BlockIn L (top L) d b
-  block-stands b d deep h k = record {
-    deep = deep;
-    aligned = eqb-true (b % frames L d) 0 (not-false (eqb (b % frames L d) 0) h);
-    fits = omega (arith, frames-le L d (top L) deep, ltb-false (memory L - frames L d) b k);
-  }
-
   -- frames that are not seeded are not free
   pub unseeded-free : (most n : ℕ) (s : State L) → SoundState L most n s → (b m : ℕ) → b + m ≤ memory L → Wholly (seeded (s .regions)) b m false → Wholly (free L (top L) (s .tree)) b m false
   unseeded-free most n s i b m l x f p q = go (free L (top L) (s .tree) f) refl
@@ -70,7 +62,7 @@ module _ (L : Ladder) where
       go false y = y
 
   -- what a call does where it is accepted is no refusal
-  pub never-refused : (s : State L) (c : Call) (k : ℕ) → act L s c .answer ≢ refused k
+  never-refused : (s : State L) (c : Call) (k : ℕ) → act L s c .answer ≢ refused k
   unfolding act
   never-refused s (seed a e) k q = let z : _≡_ {A = ℕ} 0 1 = cc in omega arith
   never-refused s (acquire c) k q = let z : _≡_ {A = ℕ} 0 1 = cc in omega arith
@@ -81,13 +73,13 @@ module _ (L : Ladder) where
     -- an accepted call answers and leaves the same, and keeps the state sound
     record SameAct (c : Call) : Type 0 where
       answer : act L s c .answer ≡ frameAct L g c .answer
-      leaves : Same L (shown L most n (act L s c .state)) (frameAct L g c .state)
+      leaves : Same L (shown L (act L s c .state)) (frameAct L g c .state)
       keeps : used L (act L s c .state .tree) ≤ n → SoundState L most n (act L s c .state)
 
     -- demand 2 of a call, where its tests stand beside the frame store's
-    as-frames : (c : Call) → Same L (shown L most n s) g → Beside (lacksRoom L n s c) (SameAct c) (tests L most n s c) (refusals L most g c) → AsFrames L most n s g c
+    as-frames : (c : Call) → SoundState L most n s → Same L (shown L s) g → Beside (lacksRoom L n s c) (SameAct c) (tests L most n s c) (refusals L most g c) → AsFrames L most n s g c
     unfolding step frameStep
-    as-frames c w h = go (verdict (refusals L most g c)) (lacksRoom L n s c) refl refl (both-verdicts (lacksRoom L n s c) (SameAct c) (tests L most n s c) (refusals L most g c) h)
+    as-frames c i w h = go (verdict (refusals L most g c)) (lacksRoom L n s c) refl refl (both-verdicts (lacksRoom L n s c) (SameAct c) (tests L most n s c) (refusals L most g c) h)
       where
         v : ℕ
         v = verdict (tests L most n s c)
@@ -97,32 +89,25 @@ module _ (L : Ladder) where
           answer = rw (z, q) (λ k. absurd (k refl));
           leaves = rw (z, q) (λ k. absurd (k refl));
           nine = rw (z, q) (λ k. (refl, ltb-true n (used L (act L s c .state .tree)) e), λ k. refl);
+          refusal = rw z (λ k x. refl);
+          keeps = rw z i;
         }
         go zero false q e r = let z : v ≡ 0 = r .accepted refl .0 in record {
           answer = rw (z, q) (λ k. r .accepted refl .1 .answer);
           leaves = rw (z, q) (λ k. r .accepted refl .1 .leaves);
           nine = rw (z, q) (λ k. absurd (never-refused s c 9 k), λ k. absurd (omega (arith, k .1, ltb-false n (used L (act L s c .state .tree)) e)));
+          refusal = rw z (λ k x. absurd (never-refused s c k x));
+          keeps = rw z (r .accepted refl .1 .keeps (ltb-false n (used L (act L s c .state .tree)) e));
         }
         go (suc u) x q e r = let z : v ≡ suc u = r .kept (omega arith) in record {
           answer = rw (z, q) (λ k. refl);
           leaves = rw (z, q) (λ k. w);
           nine = rw (z, q) (λ k. absurd (let y : suc u ≡ 9 = cc in omega (arith, r .low)), λ k. absurd (omega (arith, k .0)));
+          refusal = rw z (λ k x. refl);
+          keeps = rw z i;
         }
 
-    -- the state stays sound
-    keeps-sound : (c : Call) → SoundState L most n s → Beside (lacksRoom L n s c) (SameAct c) (tests L most n s c) (refusals L most g c) → SoundState L most n (step L most n s c .state)
-    unfolding step
-    keeps-sound c i h = go (verdict (refusals L most g c)) (lacksRoom L n s c) refl (both-verdicts (lacksRoom L n s c) (SameAct c) (tests L most n s c) (refusals L most g c) h)
-      where
-        v : ℕ
-        v = verdict (tests L most n s c)
-
-        go : (u : ℕ) (x : Bool) → lacksRoom L n s c ≡ x → Verdicts x (SameAct c) v u → SoundState L most n (settle v s (act L s c) .state)
-        go zero true e r = let z : v ≡ 9 = r .accepted refl .0 in rw z i
-        go zero false e r = let z : v ≡ 0 = r .accepted refl .0 in rw z (r .accepted refl .1 .keeps (ltb-false n (used L (act L s c .state .tree)) e))
-        go (suc u) x e r = let z : v ≡ suc u = r .kept (omega arith) in rw z i
-
-    module _ (i : SoundState L most n s) (w : Same L (shown L most n s) g) where
+    module _ (i : SoundState L most n s) (w : Same L (shown L s) g) where
       -- the tree offers a block of a code exactly if the frame store has one
       offered : (d : ℕ) → d ≤ top L → (suc d ≤ largest (top L) (s .tree)) ↔ (lowestFree L (g .free) (suc d) < blocks L (suc d))
       offered d deep = (
@@ -176,7 +161,7 @@ module _ (L : Ladder) where
 
       -- the tree's change of a block shows the frame store's
       same-change : (t : Tree (top L)) (b m : ℕ) (v : Bool) → Changed (free L (top L) (s .tree)) (free L (top L) t) (memory L) b m v
-          → Same L (shown L most n (record { tree = t; regions = s .regions })) (record { free = paint b m v (g .free); regions = g .regions })
+          → Same L (shown L (record { tree = t; regions = s .regions })) (record { free = paint b m v (g .free); regions = g .regions })
       same-change t b m v c = record {
         regions = w .regions;
         frames = changed-same (free L (top L) (s .tree)) (free L (top L) t) (g .free) (paint b m v (g .free)) (memory L) b m v c (painted (g .free) (memory L) b m v) (w .frames);
@@ -265,15 +250,9 @@ module _ (L : Ladder) where
       beside (release b zero) = pair 1 refl refl (λ h. absurd (true≢false h))
       beside (release b (suc d)) = pair 1 refl refl (λ h₁. pair 1 refl refl (λ h₂. pair 2 refl refl (λ h₃. pair 3 refl refl (λ h₄.
           pair 6 refl (ap not (same-covered b (frames L d))) (λ h₅.
-          let p = block-stands b d (le-of-suc-le-suc (ltb-false (suc (top L)) (suc d) h₂)) h₃ h₄ in
+          let p = block-stands L b d (le-of-suc-le-suc (ltb-false (suc (top L)) (suc d) h₂)) h₃ h₄ in
           pair 7 refl (same-free d b p) (λ h₆. room (act-release b d p (not-false (covered (s .regions) b (frames L d)) h₅) h₆)))))))
       beside report = ends (le-ltb n (used L (s .tree)) (i .room)) act-report
 
 pub demand2 : (L : Ladder) (most n : ℕ) → Demand2 L most n
-demand2 L most n s g i w c = as-frames L most n s g c w (beside L most n s g i w c)
-
--- every call keeps a sound state sound
-pub stays-sound : (L : Ladder) (most n : ℕ) (s : State L) → SoundState L most n s → (c : Call) → SoundState L most n (step L most n s c .state)
-stays-sound L most n s i c =
-    let w : Same L (shown L most n s) (shown L most n s) = record { regions = refl; frames = λ f l. refl } in
-    keeps-sound L most n s (shown L most n s) c i (beside L most n s (shown L most n s) i w c)
+demand2 L most n s g i w c = as-frames L most n s g c i w (beside L most n s g i w c)

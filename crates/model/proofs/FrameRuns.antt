@@ -1,25 +1,24 @@
 -- Demand 3 of the frame store: what its accepted calls keep. No tree is known here. Assumes nothing.
 use mathlib.Core.Path.{_≡_, ap, _∙_}
 use mathlib.Core.Bool.{Bool, true, false}
-use Prim.Native.Nat.{ℕ, suc, pred, _+_, _*_, _-_, _%_, _≤_, _<_}
+use Prim.Native.Nat.{ℕ, suc, pred, _+_, _*_, _-_, _≤_, _<_}
 use native.Mathlib.Omega.{arith}
 use native.Mathlib.Nat.{mul-le-mul-right, div-add-mod'}
-use lib.Dec.{eqb}
 use lib.ListN.{length}
-use borrow.Author.Tests.{ltb-false, leb-false, eqb-false, eqb-true, not-false}
+use borrow.Author.Tests.{ltb-false, leb-false, eqb-false, not-false}
 use Rattle.sizes.specs.Ladder.{Ladder}
 use Rattle.model.specs.Ladder.{top}
 use Rattle.model.specs.Frames.{Wholly, paint, bit}
 use Rattle.model.specs.Calls.{seeded, Call, seed, acquire, release, report, verdict}
 use Rattle.model.specs.FrameStore.{whole, bare, Frames, memory, size, blocks, lowestFree, frameAct, refusals}
+use Rattle.model.specs.Laws.{BlockIn}
 use Rattle.model.specs.Runs.{reckon}
 use Rattle.model.proofs.Range.{fits}
 use Rattle.model.proofs.Frames.{changed-id, painted, bit-le, bit-zero, bit-one, Adds, adds-changed}
-use Rattle.model.proofs.Free.{frames-le}
-use Rattle.model.proofs.FrameStore.{whole-iff, bare-iff, firstBelow-first}
+use Rattle.model.proofs.FrameStore.{whole-iff, bare-iff, firstBelow-first, block-stands}
 use Rattle.model.proofs.Verdict.{clear}
 
--- what the tests of a call that is not refused say of a block of s frames at b, below N
+-- what the tests of a call that is not refused say
 module _ (L : Ladder) (most : ℕ) (g : Frames) where
   pub record Seedable (a e : ℕ) : Type 0 where
     pub some : a < e
@@ -27,7 +26,7 @@ module _ (L : Ladder) (most : ℕ) (g : Frames) where
     pub few : length (g .regions) < most
     pub unseeded : Wholly (seeded (g .regions)) a (e - a) false
 
-  pub seedable : (a e : ℕ) → verdict (refusals L most g (seed a e)) ≡ 0 → Seedable a e
+  seedable : (a e : ℕ) → verdict (refusals L most g (seed a e)) ≡ 0 → Seedable a e
   unfolding refusals
   seedable a e v =
       let t = clear (refusals L most g (seed a e)) (omega arith) v in
@@ -62,12 +61,11 @@ module _ (L : Ladder) (most : ℕ) (g : Frames) where
   pub record Releasable (b c : ℕ) : Type 0 where
     pub low : 0 < c
     pub high : pred c ≤ top L
-    pub aligned : b % size L c ≡ 0
-    pub fits : b + size L c ≤ memory L
+    pub stands : BlockIn L (top L) (pred c) b
     pub inside : Wholly (seeded (g .regions)) b (size L c) true
     pub taken : Wholly (g .free) b (size L c) false
 
-  pub releasable : (b c : ℕ) → verdict (refusals L most g (release b c)) ≡ 0 → Releasable b c
+  releasable : (b c : ℕ) → verdict (refusals L most g (release b c)) ≡ 0 → Releasable b c
   unfolding refusals
   releasable b c v =
       let t = clear (refusals L most g (release b c)) (omega arith) v in
@@ -75,8 +73,7 @@ module _ (L : Ladder) (most : ℕ) (g : Frames) where
       record {
         low = omega (arith, eqb-false c 0 (t .0));
         high = high;
-        aligned = eqb-true (b % size L c) 0 (not-false (eqb (b % size L c) 0) (t .1 .1 .0));
-        fits = omega (arith, frames-le L (pred c) (top L) high, ltb-false (memory L - size L c) b (t .1 .1 .1 .0));
+        stands = block-stands L b (pred c) high (t .1 .1 .0) (t .1 .1 .1 .0);
         inside = whole-iff (seeded (g .regions)) b (size L c) .0 (not-false (whole (seeded (g .regions)) b (size L c)) (t .1 .1 .1 .1 .0));
         taken = bare-iff (g .free) b (size L c) .0 (not-false (bare (g .free) b (size L c)) (t .1 .1 .1 .1 .1 .0));
       }
@@ -88,17 +85,14 @@ module _ (L : Ladder) where
     pub out : (f : ℕ) → memory L ≤ f → h f ≡ false
 
   -- free frames are seeded and not held
-  pub free-seeded : (g : Frames) (h : ℕ → Bool) → Split g h → (b s : ℕ) → b + s ≤ memory L → Wholly (g .free) b s true → Wholly (seeded (g .regions)) b s true
+  free-seeded : (g : Frames) (h : ℕ → Bool) → Split g h → (b s : ℕ) → b + s ≤ memory L → Wholly (g .free) b s true → Wholly (seeded (g .regions)) b s true
   free-seeded g h k b s l w f p q =
       bit-one (seeded (g .regions) f) (omega (arith, k .adds f (omega arith), ap bit (w f p q), bit-le (seeded (g .regions) f)))
 
   pub free-unheld : (g : Frames) (h : ℕ → Bool) → Split g h → (b s : ℕ) → b + s ≤ memory L → Wholly (g .free) b s true → Wholly h b s false
   free-unheld g h k b s l w f p q = bit-zero (h f) (omega (arith, k .adds f (omega arith), ap bit (w f p q), bit-le (seeded (g .regions) f)))
 
-  -- unseeded frames are neither
-  unseeded-free : (g : Frames) (h : ℕ → Bool) → Split g h → (b s : ℕ) → b + s ≤ memory L → Wholly (seeded (g .regions)) b s false → Wholly (g .free) b s false
-  unseeded-free g h k b s l w f p q = bit-zero (g .free f) (omega (arith, k .adds f (omega arith), ap bit (w f p q)))
-
+  -- unseeded frames are not held
   unseeded-unheld : (g : Frames) (h : ℕ → Bool) → Split g h → (b s : ℕ) → b + s ≤ memory L → Wholly (seeded (g .regions)) b s false → Wholly h b s false
   unseeded-unheld g h k b s l w f p q = bit-zero (h f) (omega (arith, k .adds f (omega arith), ap bit (w f p q)))
 
@@ -135,8 +129,8 @@ module _ (L : Ladder) where
       let N = memory L in
       let S = seeded (g .regions) in
       record {
-        adds = adds-changed S (g .free) h S (paint b (size L c) true (g .free)) (paint b (size L c) false h) N b (size L c) true true false (omega arith) (x .fits)
+        adds = adds-changed S (g .free) h S (paint b (size L c) true (g .free)) (paint b (size L c) false h) N b (size L c) true true false (omega arith) (x .stands .fits)
             (changed-id S N b (size L c) true (x .inside)) (painted (g .free) N b (size L c) true) (painted h N b (size L c) false) (k .adds);
-        out = paint-out h false b (size L c) (x .fits) (k .out);
+        out = paint-out h false b (size L c) (x .stands .fits) (k .out);
       }
   split-act most g h k report v = k

@@ -1,4 +1,4 @@
--- What the frame store's definitions say: its tests over all frames of a block, and the lowest block that is wholly free.
+-- What the frame store's definitions say: its tests over all frames of a block, and the lowest block that is wholly free. Assumes nothing.
 use mathlib.Core.Path.{_≡_, refl, sym, ap, _∙_}
 use mathlib.Core.Logic.{_↔_}
 use mathlib.Core.Bool.{Bool, true, false, not, and-eq-true-iff, true≢false}
@@ -6,15 +6,15 @@ use Prim.Native.Nat.{ℕ, zero, suc, _+_, _*_, _-_, _/_, _%_, _≤_, _<_}
 use native.Mathlib.Omega.{arith}
 use native.Mathlib.Decide.{decLt}
 use native.Mathlib.Nat.{add-sub-of-le, div-add-mod', mul-le-mul-right, lt-of-mul-lt-mul-right, mul-mod-left, le-of-suc-le-suc}
-use lib.Dec.{leb, ltb}
-use borrow.Author.Tests.{not-true, lt-ltb, le-ltb, le-leb, lt-leb}
+use lib.Dec.{leb, ltb, eqb}
+use borrow.Author.Tests.{eqb-true, not-false, ltb-false, not-true, lt-ltb, le-ltb, le-leb, lt-leb}
 use Rattle.sizes.specs.Ladder.{Ladder}
 use Rattle.model.specs.Ladder.{frames, top}
 use Rattle.model.specs.Frames.{Wholly, Lowest}
-use Rattle.model.specs.FrameStore.{allBelow, firstBelow, whole, bare, memory, blocks, lowestFree}
+use Rattle.model.specs.FrameStore.{allBelow, firstBelow, whole, bare, Frames, memory, blocks, lowestFree, Same}
 use Rattle.model.specs.Laws.{BlockIn, FrameLaws}
 use Rattle.model.proofs.Ladder.{frames-pos}
-use Rattle.model.proofs.Free.{frames-mod}
+use Rattle.model.proofs.Free.{frames-mod, frames-le}
 
 -- two tests that pass together are one
 pub same-test : (x y : Bool) → (x ≡ true → y ≡ true) → (y ≡ true → x ≡ true) → x ≡ y
@@ -32,7 +32,7 @@ same-order a b x y k = go (decLt x y) (decLt a b)
     go (no l) (no m) = absurd (l (k .0 (omega arith)))
 
 -- all numbers below n pass: each does
-pub allBelow-iff : (p : ℕ → Bool) (n : ℕ) → (allBelow p n ≡ true) ↔ ((i : ℕ) → i < n → p i ≡ true)
+allBelow-iff : (p : ℕ → Bool) (n : ℕ) → (allBelow p n ≡ true) ↔ ((i : ℕ) → i < n → p i ≡ true)
 unfolding allBelow
 allBelow-iff p zero = (λ e i h. absurd (omega arith), λ h. refl)
 allBelow-iff p (suc n) = (
@@ -142,3 +142,15 @@ frame-laws L g d deep = record {
     go h (yes l) =
         let q = lowestFree-lowest L g d deep l in
         absurd (h (lowestFree L g (suc d) * frames L d) (record { deep = deep; aligned = q .aligned; fits = q .fits }) (q .whole))
+
+pub same-self : (L : Ladder) (g : Frames) → Same L g g
+same-self L g = record { regions = refl; frames = λ f l. refl }
+
+module _ (L : Ladder) where
+  -- a block that passes tests 1 to 3 of a release stands in memory
+  pub block-stands : (b d : ℕ) → d ≤ top L → not (eqb (b % frames L d) 0) ≡ false → ltb (memory L - frames L d) b ≡ false → BlockIn L (top L) d b
+  block-stands b d deep h k = record {
+    deep = deep;
+    aligned = eqb-true (b % frames L d) 0 (not-false (eqb (b % frames L d) 0) h);
+    fits = omega (arith, frames-le L d (top L) deep, ltb-false (memory L - frames L d) b k);
+  }

@@ -50,7 +50,7 @@ changed-same g g' h h' N b s v c k e f l = go (decLt f b) (decLt f (b + s))
     go (no x) (yes y) = c .inside f (omega arith) y ∙ sym (k .inside f (omega arith) y)
     go (no x) (no y) = c .above f (omega arith) l ∙ e f l ∙ sym (k .above f (omega arith) l)
 
--- painting a block changes it
+-- which frames lie in a block
 pub within-in : (b s f : ℕ) → b ≤ f → f < b + s → within b s f ≡ true
 within-in b s f p q = rw (le-leb b f p, lt-ltb f (b + s) q)
 
@@ -60,6 +60,7 @@ within-below b s f p = rw (lt-leb b f p)
 pub within-above : (b s f : ℕ) → b + s ≤ f → within b s f ≡ false
 within-above b s f p = rw (le-leb b f (omega arith), le-ltb f (b + s) p)
 
+-- painting a block changes it
 pub painted : (g : ℕ → Bool) (N b s : ℕ) (v : Bool) → Changed g (paint b s v g) N b s v
 painted g N b s v = record {
   inside = λ f p q. rw (within-in b s f p q);
@@ -131,7 +132,7 @@ unfolding count
 count-add g h k zero e = omega arith
 count-add g h k (suc n) e = omega (arith, e n (omega arith), count-add g h k n (λ f l. e f (omega arith)))
 
-pub count-le : (g : ℕ → Bool) (n : ℕ) → count g n ≤ n
+count-le : (g : ℕ → Bool) (n : ℕ) → count g n ≤ n
 unfolding count
 count-le g zero = omega arith
 count-le g (suc n) = omega (arith, bit-le (g n), count-le g n)
@@ -159,7 +160,7 @@ count-append g a zero = rw (add-zero a, add-zero (count g a))
 count-append g a (suc n) = rw (add-suc a n) (omega (arith, count-append g a n))
 
 -- a block that becomes free adds its frames to the count
-pub count-changed : (g h : ℕ → Bool) (N b s : ℕ) → Changed g h N b s true → Wholly g b s false → (n : ℕ) → n ≤ N → count h n ≡ count g n + min (n - b) s
+count-changed : (g h : ℕ → Bool) (N b s : ℕ) → Changed g h N b s true → Wholly g b s false → (n : ℕ) → n ≤ N → count h n ≡ count g n + min (n - b) s
 unfolding count
 count-changed g h N b s c k zero l = omega arith
 count-changed g h N b s c k (suc n) l = go (decLt n b) (decLt n (b + s)) (count-changed g h N b s c k n (omega arith))

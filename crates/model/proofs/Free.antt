@@ -1,4 +1,4 @@
--- Demand 2 on one tree: `largest` says which blocks are wholly free, and `pick` is the lowest of them.
+-- Demand 2 on one tree: `largest` says which blocks are wholly free, and `pick` is the lowest of them. Assumes nothing.
 use mathlib.Core.Path.{_≡_, refl, sym, ap, _∙_}
 use mathlib.Core.Logic.{_⊎_, ⊎-elim}
 use mathlib.Core.Bool.{Bool, true, false, true≢false, false≢true}
@@ -36,7 +36,7 @@ pub largest-child : (d : ℕ) (ks : List (Tree d)) (i : ℕ) → largest d (chil
 largest-child d ks i = maximum-getD (largest d) ks i (empty d) (largest-empty d)
 
 -- i blocks of n frames and an aligned block in the next
-pub aligned-up : (n s i r : ℕ) → n % s ≡ 0 → r % s ≡ 0 → (i * n + r) % s ≡ 0
+aligned-up : (n s i r : ℕ) → n % s ≡ 0 → r % s ≡ 0 → (i * n + r) % s ≡ 0
 aligned-up n s i r h k = mod-eq-zero-of-dvd s (dvd-add s (dvd-mul-left-of-dvd s (dvd-of-mod-eq-zero s h) i) (dvd-of-mod-eq-zero s k))
 
 -- the lowest block depends on the free frames alone
@@ -161,3 +161,13 @@ module _ (L : Ladder) where
           let q = pick-lowest d 0 t s k in
           let p = pick L d 0 t in
           absurd (true≢false (sym (q .whole p (omega arith) (omega (arith, frames-pos L 0))) ∙ h p (omega (arith, q .fits, frames-pos L 0))))
+
+  -- a sound tree that offers all frames of another offers its codes
+  pub largest-more : (d : ℕ) (t t' : Tree d) → Sound L d t → Sound L d t' → ((f : ℕ) → f < frames L d → free L d t f ≡ true → free L d t' f ≡ true) → largest d t ≤ largest d t'
+  largest-more d t t' s s' e = go (largest d t) refl
+    where
+      go : (l : ℕ) → largest d t ≡ l → l ≤ largest d t'
+      go zero k = omega arith
+      go (suc d') k =
+          let q = pick-lowest d d' t s (omega arith) in
+          block-largest d d' t' (pick L d d' t) s' (omega (arith, largest-le d t)) (q .aligned) (q .fits) (λ f x y. e f (omega (arith, q .fits)) (q .whole f x y))

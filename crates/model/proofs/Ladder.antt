@@ -8,10 +8,9 @@ use Rattle.sizes.specs.Ladder.{Ladder, smallest, largest as largest-code, bytes
 use Rattle.sizes.specs.Laws.{MultipliesUp}
 use Rattle.sizes.proofs.Ladder.{smaller-is}
 use Rattle.model.specs.Ladder.{fan, frames, top}
-use Rattle.model.specs.TreeStore.{step}
 
 module _ (L : Ladder) where
-  pub fan-two : (d : ℕ) → 2 ≤ fan L d
+  fan-two : (d : ℕ) → 2 ≤ fan L d
   unfolding fan
   fan-two d = omega arith
 

@@ -5,11 +5,13 @@ pub mod Lists
 pub mod Free
 pub mod Change
 pub mod Count
+pub mod Words
 pub mod Regions
 pub mod Seed
+pub mod Descent
 pub mod Probes
-pub mod Laws
 pub mod FrameStore
+pub mod Laws
 pub mod Demand2
 pub mod Verdict
 pub mod FrameRuns

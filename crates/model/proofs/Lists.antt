@@ -1,4 +1,4 @@
--- Facts on maximum, all, first, by the elements' places.
+-- Facts on maximum, all, first, by the elements' places. Assumes nothing.
 use mathlib.Core.Path.{_≡_, refl}
 use mathlib.Core.Bool.{Bool, true, false, and-eq-true-iff, true≢false}
 use mathlib.Core.List.{List, [], _∷_, map}
@@ -74,3 +74,9 @@ pub getD-map-lt : {A : Type 0} (f : A → A) (xs : List A) (i : ℕ) (z : A) →
 getD-map-lt f [] i z h = absurd (not-suc-le-zero h)
 getD-map-lt f (x ∷ xs) zero z h = refl
 getD-map-lt f (x ∷ xs) (suc i) z h = getD-map-lt f xs i z (le-of-suc-le-suc h)
+
+-- the first element passes
+pub first-zero : {A : Type 0} (p : A → Bool) (xs : List A) (z : A) → 0 < length xs → p (getD xs 0 z) ≡ true → first p xs ≡ 0
+unfolding first
+first-zero p [] z h e = absurd (not-suc-le-zero h)
+first-zero p (x ∷ xs) z h e = rw e

@@ -1,4 +1,4 @@
--- A ladder that multiplies up, as the original counts it: bytes are frames times the smallest page's bytes.
+-- A ladder that multiplies up, as the original counts it: bytes are frames times the smallest page's bytes. Assumes nothing.
 use mathlib.Core.Path.{_≡_, ap}
 use Prim.Native.Nat.{ℕ, suc, _+_, _*_, _-_, _/_, _%_, _≤_, _<_}
 use native.Mathlib.Omega.{arith}
@@ -6,23 +6,11 @@ use native.Mathlib.Nat.{mul-assoc, add-mul, mul-le-mul-right, mul-div-mul-right,
 use Rattle.sizes.specs.Ladder.{Ladder, smallest, largest as largest-code, bytes}
 use Rattle.sizes.specs.Laws.{MultipliesUp}
 use Rattle.model.specs.Ladder.{fan, frames}
-use Rattle.model.specs.AsOriginal.{address}
 use Rattle.model.proofs.Ladder.{bytes-is, bytes-fan}
 use Rattle.model.proofs.Picture.{NodeAt}
 
--- a remainder in pages, and in bytes
-pub scale-mod : (a n p : ℕ) → 0 < p → a * p % (n * p) ≡ a % n * p
-scale-mod a n p h = omega (
-  arith,
-  div-add-mod' (a * p) (n * p),
-  ap (λ (x : ℕ). x * (n * p)) (mul-div-mul-right a n h),
-  mul-assoc (a / n) n p,
-  ap (λ (x : ℕ). x * p) (div-add-mod' a n),
-  add-mul (a / n * n) (a % n) p,
-)
-
 -- a block b of a node is block b % n of the child b / n, in bytes
-pub scale-parts : (b n p : ℕ) → b * p ≡ b / n * (n * p) + b % n * p
+scale-parts : (b n p : ℕ) → b * p ≡ b / n * (n * p) + b % n * p
 scale-parts b n p = omega (arith, mul-assoc (b / n) n p, ap (λ (x : ℕ). x * p) (div-add-mod' b n), add-mul (b / n * n) (b % n) p)
 
 module _ (L : Ladder) (m : MultipliesUp L) where

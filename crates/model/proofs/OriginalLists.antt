@@ -1,4 +1,4 @@
--- What the original's small functions on options and lists answer, for a list that is spread over addresses.
+-- What the original's small functions on options and lists answer, for a list that is spread over addresses. Assumes nothing.
 use mathlib.Core.Path.{_≡_, refl, sym, ap, _∙_}
 use mathlib.Core.Bool.{Bool}
 use mathlib.Core.Option.{Option, some}
@@ -10,7 +10,6 @@ use lib.Dec.{leb}
 use lib.ListN.{length, getD, set, replicate}
 use borrow.Author.Tests.{lt-ltb, lt-leb}
 use Rattle.model.specs.Lists.{maximum, all, first}
-use Rattle.model.specs.TreeStore.{step}
 use Rattle.model.specs.Rust.{gives, unwrap, atLeast, maxOption, element, position, maxOfAll}
 use Rattle.model.specs.StandIns.{coded}
 use Rattle.model.proofs.Picture.{spread}

@@ -1,4 +1,4 @@
--- What the steps of the original that look at one node and its children do to the picture of a tree.
+-- What the steps of the original that look at one node and its children do to the picture of a tree. Assumes nothing.
 use mathlib.Core.Path.{_≡_, refl, sym, ap, _∙_}
 use mathlib.Core.Bool.{Bool, true, false, cond, and-eq-true-iff, false≢true}
 use mathlib.Core.Option.{none, some}
@@ -13,14 +13,11 @@ use borrow.Author.Tests.{lt-ltb, le-leb, eq-eqb}
 use Rattle.sizes.specs.Ladder.{Ladder, smallest, largest as largest-code, bytes, smaller}
 use Rattle.sizes.specs.Laws.{MultipliesUp}
 use Rattle.model.specs.Ladder.{fan, frames}
-use Rattle.model.specs.FrameStore.{size}
 use Rattle.model.specs.Lists.{maximum, all}
 use Rattle.model.specs.Tree.{node, Tree, token, empty, mark, child, largest, merge, Sound, opened, handedOn}
-use Rattle.model.specs.TreeStore.{step}
 use Rattle.model.specs.Rust.{_>>=_, _>>_, Ends, gives, assert, word, plus, times, isSome, element, mapCollect, collectFrom, forEach}
 use Rattle.model.specs.StandIns.{coded, Page, init, divide, mergePages}
 use Rattle.model.specs.Original.{PageStorageTreeNode, tokenOf, maxOf, emptyNode, «store_page_token_in_this_node», «acquire_page_token_from_this_node», «initialize_children_if_needed», «calculate_child_index», «divide_page_token_if_necessary», «try_to_merge_page_tokens»}
-use Rattle.model.specs.AsOriginal.{address}
 use Rattle.model.proofs.Ladder.{fan-pos, fan-is, bytes-fan, bytes-some, smaller-suc}
 use Rattle.model.proofs.Lists.{maximum-zero, getD-rep}
 use Rattle.model.proofs.Free.{largest-empty}
@@ -28,12 +25,12 @@ use Rattle.model.proofs.Picture.{given, spread, NodeAt, picture}
 use Rattle.model.proofs.OriginalLists.{spread-length, spread-all, spread-replicate, element-behind}
 use Rattle.model.proofs.OriginalLadder.{index-is}
 
-pub some-given : (v : Bool) (p : Page) → isSome (given v p) ≡ v
+some-given : (v : Bool) (p : Page) → isSome (given v p) ≡ v
 some-given true p = refl
 some-given false p = refl
 
 -- opening offers nothing new
-pub largest-opened : (L : Ladder) (d : ℕ) (v : Bool) (ks : List (Tree d)) → largest (suc d) (node v (opened L d ks)) ≡ largest (suc d) (node v ks)
+largest-opened : (L : Ladder) (d : ℕ) (v : Bool) (ks : List (Tree d)) → largest (suc d) (node v (opened L d ks)) ≡ largest (suc d) (node v ks)
 unfolding largest opened maximum
 largest-opened L d true ks = refl
 largest-opened L d false [] = maximum-zero (largest d) (replicate (fan L (suc d)) (empty d)) (empty d) (λ i. rw (getD-rep (fan L (suc d)) i (empty d)) (largest-empty d))
@@ -78,7 +75,7 @@ module _ (L : Ladder) where
   picture-token zero base t = refl
   picture-token (suc d) base (node v ks) = refl
 
-  pub picture-has : (d base : ℕ) (t : Tree d) → isSome (tokenOf (suc d) (picture L d base t)) ≡ token d t
+  picture-has : (d base : ℕ) (t : Tree d) → isSome (tokenOf (suc d) (picture L d base t)) ≡ token d t
   picture-has d base t = rw (picture-token d base t) (some-given (token d t) (init base (suc d)))
 
   pub picture-most : (d base : ℕ) (t : Tree d) → maxOf (suc d) (picture L d base t) ≡ coded (largest d t)

@@ -1,4 +1,4 @@
--- The original's add_memory_region is the tree's seeding: its loops come to an end, it never panics, and it gives the picture of the tree after.
+-- The original's add_memory_region is the tree's seeding: its loops come to an end, it never panics, and it gives the picture of the tree after. Assumes nothing.
 use mathlib.Core.Path.{_≡_, refl, sym, ap, _∙_}
 use mathlib.Core.Bool.{Bool, true, false, _&&_, not}
 use mathlib.Core.Option.{some}
@@ -14,19 +14,20 @@ use Rattle.sizes.specs.Laws.{MultipliesUp}
 use Rattle.model.specs.Ladder.{frames, top}
 use Rattle.model.specs.Frames.{Wholly}
 use Rattle.model.specs.Calls.{stored}
-use Rattle.model.specs.FrameStore.{bare, size}
+use Rattle.model.specs.FrameStore.{bare}
 use Rattle.model.specs.Tree.{Tree, largest, free, Sound, store, remove, pick}
 use Rattle.model.specs.TreeStore.{largestFit, seedFrom}
-use Rattle.model.specs.Laws.{BlockIn}
+use Rattle.model.specs.Laws.{BlockIn, Made}
 use Rattle.model.specs.Rust.{_>>=_, _>>_, Ends, gives, minus, isSome, ok, err, forEach, while}
 use Rattle.model.specs.StandIns.{TooMuchMemory, OutOfPages, coded, isBounded, Page, init}
 use Rattle.model.specs.Original.{«find_largest_page_size», «store_page_token», regionLoop, «add_memory_region», «acquire_page», «release_pages»}
-use Rattle.model.specs.AsOriginal.{Addressable, address}
+use Rattle.model.specs.AsOriginal.{Addressable}
 use Rattle.model.proofs.Ladder.{frames-pos, frames-dvd, bytes-is, bytes-some, smaller-suc, largest-top}
-use Rattle.model.proofs.Change.{Makes, store-done}
+use Rattle.model.proofs.Range.{scale-mod}
+use Rattle.model.proofs.Change.{store-done}
 use Rattle.model.proofs.Seed.{largestFit-ok}
+use Rattle.model.proofs.Descent.{down}
 use Rattle.model.proofs.Picture.{NodeAt, picture, allocator}
-use Rattle.model.proofs.OriginalLadder.{scale-mod}
 use Rattle.model.proofs.OriginalStore.{store-is}
 use Rattle.model.proofs.OriginalTake.{acquire-none, acquire-is}
 
@@ -148,7 +149,7 @@ module _ (L : Ladder) (m : MultipliesUp L) where
           (down ∙ ap (λ (i : ℕ). gives (suc i)) (sym (fit-above L d (top L) a e (omega (arith, largest-top L m)) (eqb-false (a % frames L (suc d)) 0 y))))
 
   -- the largest page size at page a, from any size that is aligned there
-  pub find-is : (d a e : ℕ) → suc d ≤ largest-code L → a < e → a % frames L d ≡ 0
+  find-is : (d a e : ℕ) → suc d ≤ largest-code L → a < e → a % frames L d ≡ 0
       → «find_largest_page_size» L (suc d) (a * bytes L smallest) (e * bytes L smallest) ≡ gives (suc (largestFit L (top L) a e))
   unfolding «find_largest_page_size»
   find-is d a e c h k = rw (largest-top L m) (loops-are (suc (top L)) d a e (omega arith) c h k)
@@ -191,7 +192,7 @@ module _ (L : Ladder) (m : MultipliesUp L) where
       t' : Tree (top L)
       t' = store L (top L) j t a
 
-      made : Makes L (top L) j true t a t'
+      made : Made L (top L) j true t a t'
       made = store-done L (top L) j t a s place bare
 
       stored : «store_page_token» L (suc (top L)) 0 (init (a * bytes L smallest) (suc j)) (picture L (top L) 0 t) ≡ gives (picture L (top L) 0 t', largest (top L) t')
@@ -246,7 +247,7 @@ module _ (L : Ladder) (m : MultipliesUp L) where
   acquire-page-none d' t h = rw (acquire-none L (top L) d' 0 t h)
 
   -- to release one page, and then others
-  pub release-is : Addressable L → (d' b : ℕ) (t : Tree (top L)) (pages : List Page) → Sound L (top L) t → BlockIn L (top L) d' b → Wholly (free L (top L) t) b (frames L d') false
+  release-is : Addressable L → (d' b : ℕ) (t : Tree (top L)) (pages : List Page) → Sound L (top L) t → BlockIn L (top L) d' b → Wholly (free L (top L) t) b (frames L d') false
       → «release_pages» L (suc (top L)) (init (b * bytes L smallest) (suc d') ∷ pages) (allocator L t)
       ≡ «release_pages» L (suc (top L)) pages (allocator L (store L (top L) d' t b))
   unfolding «release_pages» forEach

@@ -1,4 +1,4 @@
--- The original's store_page_token is the tree's store: on the picture of a sound tree it never panics, and it gives the picture of the tree after.
+-- The original's store_page_token is the tree's store: on the picture of a sound tree it never panics, and it gives the picture of the tree after. Assumes nothing.
 use mathlib.Core.Path.{_≡_, refl, ap, _∙_}
 use mathlib.Core.Bool.{Bool, true, false, true≢false}
 use mathlib.Core.List.{List}
@@ -14,15 +14,14 @@ use Rattle.model.specs.Ladder.{fan, frames}
 use Rattle.model.specs.Frames.{Wholly}
 use Rattle.model.specs.FrameStore.{bare}
 use Rattle.model.specs.Lists.{maximum}
-use Rattle.model.specs.Tree.{node, Tree, empty, mark, child, largest, merge, free, Sound, opened, handedOn, store, pick}
-use Rattle.model.specs.Laws.{BlockIn}
-use Rattle.model.specs.Rust.{gives, word}
+use Rattle.model.specs.Tree.{node, Tree, empty, mark, child, largest, merge, free, Sound, opened, handedOn, store}
+use Rattle.model.specs.Laws.{BlockIn, Made}
+use Rattle.model.specs.Rust.{_>>=_, _>>_, gives, word}
 use Rattle.model.specs.StandIns.{init}
 use Rattle.model.specs.Original.{«store_page_token_in_this_node», «child_address_and_size», «store_page_token»}
-use Rattle.model.specs.AsOriginal.{address}
 use Rattle.model.proofs.Ladder.{frames-pos, smaller-suc}
-use Rattle.model.proofs.Free.{largest-le, block-largest, pick-lowest}
-use Rattle.model.proofs.Change.{place-down, child-lt, opened-length, handedOn-free, handedOn-sound, Makes, replaced-sound, block-child, store-done}
+use Rattle.model.proofs.Free.{block-largest, largest-more}
+use Rattle.model.proofs.Change.{place-down, child-lt, opened-length, handedOn-free, handedOn-sound, replaced-sound, block-child, store-done}
 use Rattle.model.proofs.Picture.{NodeAt, picture}
 use Rattle.model.proofs.OriginalLists.{unwrap-coded, some-coded, max-coded, spread-element, spread-set, maximum-set}
 use Rattle.model.proofs.OriginalLadder.{address-in-child, node-down}
@@ -30,28 +29,21 @@ use Rattle.model.proofs.OriginalPicture.{picture-most, picture-store, m
 
 module _ (L : Ladder) where
   -- a block that is stored is offered, and what was offered before still is
-  pub store-offers : (d d' : ℕ) (t : Tree d) (b : ℕ) → Sound L d t → BlockIn L d d' b → Wholly (free L d t) b (frames L d') false → suc d' ≤ largest d (store L d d' t b)
+  store-offers : (d d' : ℕ) (t : Tree d) (b : ℕ) → Sound L d t → BlockIn L d d' b → Wholly (free L d t) b (frames L d') false → suc d' ≤ largest d (store L d d' t b)
   store-offers d d' t b s p h =
       let r = store-done L d d' t b s p h in
       block-largest L d d' (store L d d' t b) b (r .1) (p .deep) (p .aligned) (p .fits) (r .0 .inside)
 
-  pub store-grows : (d d' : ℕ) (t : Tree d) (b : ℕ) → Sound L d t → BlockIn L d d' b → Wholly (free L d t) b (frames L d') false → largest d t ≤ largest d (store L d d' t b)
-  store-grows d d' t b s p h = go (largest d t) refl
+  store-grows : (d d' : ℕ) (t : Tree d) (b : ℕ) → Sound L d t → BlockIn L d d' b → Wholly (free L d t) b (frames L d') false → largest d t ≤ largest d (store L d d' t b)
+  store-grows d d' t b s p h = largest-more L d t (store L d d' t b) s (r .1) (λ f l e. kept f l e (decLt f b) (decLt f (b + frames L d')))
     where
-      r : Makes L d d' true t b (store L d d' t b)
+      r : Made L d d' true t b (store L d d' t b)
       r = store-done L d d' t b s p h
 
-      go : (c : ℕ) → largest d t ≡ c → c ≤ largest d (store L d d' t b)
-      go zero e = omega arith
-      go (suc c) e =
-          let q = pick-lowest L d c t s (omega arith) in
-          block-largest L d c (store L d d' t b) (pick L d c t) (r .1) (omega (arith, largest-le d t)) (q .aligned) (q .fits)
-          (λ f x y. kept f (q .whole f x y) (omega (arith, q .fits)) (decLt f b) (decLt f (b + frames L d')))
-        where
-          kept : (f : ℕ) → free L d t f ≡ true → f < frames L d → Dec (f < b) → Dec (f < b + frames L d') → free L d (store L d d' t b) f ≡ true
-          kept f x y (yes u) w = r .0 .below f u ∙ x
-          kept f x y (no u) (yes w) = r .0 .inside f (omega arith) w
-          kept f x y (no u) (no w) = r .0 .above f (omega arith) y ∙ x
+      kept : (f : ℕ) → f < frames L d → free L d t f ≡ true → Dec (f < b) → Dec (f < b + frames L d') → free L d (store L d d' t b) f ≡ true
+      kept f y x (yes u) w = r .0 .below f u ∙ x
+      kept f y x (no u) (yes w) = r .0 .inside f (omega arith) w
+      kept f y x (no u) (no w) = r .0 .above f (omega arith) y ∙ x
 
 module _ (L : Ladder) (m : MultipliesUp L) where
   -- a block that is the whole node
@@ -76,7 +68,7 @@ module _ (L : Ladder) (m : MultipliesUp L) where
       rw (smaller-suc L m d (x .code), lt-ltb (i * bytes L (suc d)) word (omega arith), lt-ltb (base + i * bytes L (suc d)) word (omega arith))
 
   -- to store a block none of whose frames is free
-  abbrev pub StoreIs : (d d' : ℕ) → Type 0
+  abbrev StoreIs : (d d' : ℕ) → Type 0
   StoreIs d d' = (base b address : ℕ) (t : Tree d) → NodeAt L d base → address ≡ base + b * bytes L smallest
       → Sound L d t → BlockIn L d d' b → Wholly (free L d t) b (frames L d') false
       → «store_page_token» L (suc d) base (init address (suc d')) (picture L d base t) ≡ gives (picture L d base (store L d d' t b), largest d (store L d d' t b))

@@ -1,96 +1,32 @@
--- The original's acquire_page_token is the tree's take of the block that `pick` names: on the picture of a sound tree it never panics, and it gives the picture of the tree after.
+-- The original's acquire_page_token is the tree's take of the block that `pick` names: on the picture of a sound tree it never panics, and it gives the picture of the tree after. Assumes nothing.
 use mathlib.Core.Path.{_≡_, refl, ap, _∙_}
-use mathlib.Core.Bool.{Bool, true, false, false≢true}
-use mathlib.Core.Option.{some}
-use mathlib.Core.List.{List, [], _∷_, map}
+use mathlib.Core.Bool.{Bool, true, false}
+use mathlib.Core.List.{List}
 use Prim.Native.Nat.{ℕ, zero, suc, _+_, _*_, _/_, _%_, _≤_, _<_}
 use native.Mathlib.Omega.{arith}
-use native.Mathlib.Nat.{not-suc-le-zero}
 use lib.Dec.{leb, ltb}
-use lib.ListN.{length, getD, set, length-map}
+use lib.ListN.{set}
 use borrow.Author.Tests.{ltb-true, ltb-false, le-leb, lt-leb, eq-eqb, ne-eqb}
 use Rattle.sizes.specs.Ladder.{Ladder, smallest, bytes}
 use Rattle.sizes.specs.Laws.{MultipliesUp}
-use Rattle.model.specs.Ladder.{fan, frames, top}
-use Rattle.model.specs.Lists.{maximum, first}
-use Rattle.model.specs.Tree.{node, Tree, token, empty, mark, child, largest, SoundNode, Sound, opened, handedOn, remove, pick}
+use Rattle.model.specs.Ladder.{fan, frames}
+use Rattle.model.specs.Tree.{node, Tree, token, empty, mark, child, largest, Sound, handedOn, remove, pick}
 use Rattle.model.specs.Rust.{gives, atLeast, ok, err}
 use Rattle.model.specs.StandIns.{OutOfPages, init}
 use Rattle.model.specs.Original.{maxOf, «acquire_page_token»}
-use Rattle.model.specs.AsOriginal.{address}
-use Rattle.model.proofs.Ladder.{fan-pos, frames-pos, smaller-suc}
+use Rattle.model.proofs.Ladder.{frames-pos, smaller-suc}
 use Rattle.model.proofs.Range.{child-no, child-at}
-use Rattle.model.proofs.Lists.{maximum-le, first-first, getD-map-lt}
 use Rattle.model.proofs.Free.{largest-le, pick-lowest}
 use Rattle.model.proofs.Change.{opened-length, handedOn-length, handedOn-sound}
+use Rattle.model.proofs.Descent.{token-largest, largest-token, token-pick, Down, looksTo, down}
 use Rattle.model.proofs.Picture.{NodeAt, picture}
 use Rattle.model.proofs.OriginalLists.{at-least-coded, spread-element, spread-set, spread-position, spread-max}
 use Rattle.model.proofs.OriginalLadder.{address-in-child, node-down}
 use Rattle.model.proofs.OriginalPicture.{picture-token, picture-most, picture-acquire, initialize-is, divide-is}
 use Rattle.model.proofs.OriginalStore.{child-at-index}
 
--- a token node offers itself, and what is picked in it starts where it does
-token-largest : (d : ℕ) (t : Tree d) → token d t ≡ true → largest d t ≡ suc d
-unfolding largest
-token-largest zero true e = refl
-token-largest zero false e = absurd (false≢true e)
-token-largest (suc d) (node true ks) e = refl
-token-largest (suc d) (node false ks) e = absurd (false≢true e)
-
-largest-token : (d : ℕ) (t : Tree d) → suc d ≤ largest d t → token d t ≡ true
-unfolding largest
-largest-token zero true h = refl
-largest-token zero false h = absurd (omega arith)
-largest-token (suc d) (node true ks) h = refl
-largest-token (suc d) (node false ks) h = absurd (omega (arith, maximum-le (largest d) (suc d) ks (largest-le d)))
-
-mark-largest : (d : ℕ) (t : Tree d) → largest d (mark d true t) ≡ suc d
-unfolding largest
-mark-largest zero t = refl
-mark-largest (suc d) (node v ks) = refl
-
--- the first element passes
-first-zero : {A : Type 0} (p : A → Bool) (xs : List A) (z : A) → 0 < length xs → p (getD xs 0 z) ≡ true → first p xs ≡ 0
-unfolding first
-first-zero p [] z h e = absurd (not-suc-le-zero h)
-first-zero p (x ∷ xs) z h e = rw e
-
 module _ (L : Ladder) where
-  mark-pick : (d d' : ℕ) (t : Tree d) → pick L d d' (mark d true t) ≡ 0
-  unfolding pick
-  mark-pick zero d' t = refl
-  mark-pick (suc d) d' (node v ks) = refl
-
-  token-pick : (d d' : ℕ) (t : Tree d) → token d t ≡ true → pick L d d' t ≡ 0
-  unfolding pick
-  token-pick zero d' t e = refl
-  token-pick (suc d) d' (node true ks) e = refl
-  token-pick (suc d) d' (node false ks) e = absurd (false≢true e)
-
-  -- the child in which a take goes on, when the token is handed on
-  record Down (d d' : ℕ) (v : Bool) (ks : List (Tree d)) (i : ℕ) : Type 0 where
-    in-range : i < length (handedOn L d v ks)
-    reaches : suc d' ≤ largest d (child d (handedOn L d v ks) i)
-    picks : pick L (suc d) d' (node v ks) ≡ i * frames L d + pick L d d' (child d (handedOn L d v ks) i)
-
-  abbrev next : (d d' : ℕ) → Bool → List (Tree d) → ℕ
-  next d d' v ks = first (λ k. leb (suc d') (largest d k)) (handedOn L d v ks)
-
-  down : (d d' : ℕ) (v : Bool) (ks : List (Tree d)) → SoundNode L d (Sound L d) v ks → d' < suc d → suc d' ≤ largest (suc d) (node v ks) → Down d d' v ks (next d d' v ks)
-  unfolding handedOn opened largest pick maximum
-  down d d' false [] s l h = absurd (omega arith)
-  down d d' false (k ∷ ks) s l h =
-      let f = first-first (largest d) (suc d') (k ∷ ks) (empty d) (omega arith) h in
-      record { in-range = f .in-range; reaches = f .reaches; picks = refl }
-  down d d' true ks s l h =
-      let O = opened L d ks in
-      let some : 0 < length O = omega (arith, opened-length L d ks (s .shape), fan-pos L d) in
-      let at : child d (map (mark d true) O) 0 ≡ mark d true (child d O 0) = getD-map-lt (mark d true) O 0 (empty d) some in
-      let top : largest d (child d (map (mark d true) O) 0) ≡ suc d = rw at (mark-largest d (child d O 0)) in
-      let i : next d d' true ks ≡ 0 = first-zero (λ k. leb (suc d') (largest d k)) (map (mark d true) O) (empty d) (omega (arith, length-map O (mark d true))) (le-leb (suc d') (largest d (child d (map (mark d true) O) 0)) (omega arith)) in
-      rw i (record { in-range = omega (arith, length-map O (mark d true)); reaches = omega arith; picks = rw (at, mark-pick d d' (child d O 0)) (omega arith) })
-
-  -- (2, refused) a size that the node does not offer
+  -- a size that the node does not offer
   pub acquire-none : (d d' base : ℕ) (t : Tree d) → largest d t < suc d' → «acquire_page_token» L (suc d) base (suc d') (picture L d base t) ≡ gives (err OutOfPages, picture L d base t)
   unfolding «acquire_page_token»
   acquire-none d d' base t h = rw (picture-most L d base t, at-least-coded (largest d t) (suc d') (omega arith), lt-leb (suc d') (largest d t) h)
@@ -108,7 +44,7 @@ module _ (L : Ladder) where
 
 module _ (L : Ladder) (m : MultipliesUp L) where
   -- to take a block of a size that the node offers
-  abbrev pub AcquireIs : (d d' : ℕ) → Type 0
+  abbrev AcquireIs : (d d' : ℕ) → Type 0
   AcquireIs d d' = (base address : ℕ) (t : Tree d) → NodeAt L d base → address ≡ base + pick L d d' t * bytes L smallest → Sound L d t → suc d' ≤ largest d t
       → «acquire_page_token» L (suc d) base (suc d') (picture L d base t) ≡ gives (ok (init address (suc d')), picture L d base (remove L d d' t (pick L d d' t)))
 
@@ -155,9 +91,9 @@ module _ (L : Ladder) (m : MultipliesUp L) where
           P = handedOn L d v ks
 
           i : ℕ
-          i = next L d d' v ks
+          i = looksTo L d d' v ks
 
-          w : Down L d d' v ks (next L d d' v ks)
+          w : Down L d d' v ks (looksTo L d d' v ks)
           w = down L d d' v ks s l h
 
           offers : (a : ℕ) (k : Tree d) → atLeast (maxOf (suc d) (picture L d a k)) (suc d') ≡ leb (suc d') (largest d k)

@@ -1,4 +1,4 @@
--- How a tree looks in the original: the nodes and the allocator that the proofs find the original to keep.
+-- How a tree looks in the original: the nodes and the allocator that the proofs find the original to keep. Assumes nothing.
 use mathlib.Core.Path.{_≡_}
 use mathlib.Core.Bool.{Bool, true, false}
 use mathlib.Core.Option.{Option, none, some}
@@ -7,7 +7,6 @@ use Prim.Native.Nat.{ℕ, zero, suc, _+_, _%_, _≤_, _<_}
 use Rattle.sizes.specs.Ladder.{Ladder, largest as largest-code, bytes}
 use Rattle.model.specs.Ladder.{top}
 use Rattle.model.specs.Tree.{node, Tree, largest}
-use Rattle.model.specs.TreeStore.{step}
 use Rattle.model.specs.Rust.{word}
 use Rattle.model.specs.StandIns.{coded, Page, init}
 use Rattle.model.specs.Original.{PageStorageTreeNode, PageAllocator}

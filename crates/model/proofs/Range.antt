@@ -6,7 +6,7 @@ use mathlib.Core.Bool.{Bool}
 use Prim.Native.Nat.{ℕ, _+_, _*_, _-_, _/_, _%_, _≤_, _<_, _∣_}
 use native.Mathlib.Omega.{arith}
 use native.Mathlib.Decide.{ℕ-discrete}
-use native.Mathlib.Nat.{div-add-mod', mod-lt, mod-mod-of-dvd, mod-eq-zero-of-dvd, mul-le-mul-right, lt-of-mul-lt-mul-right, div-eq-of-lt-le}
+use native.Mathlib.Nat.{div-add-mod', mod-lt, mod-mod-of-dvd, mod-eq-zero-of-dvd, mul-le-mul-right, lt-of-mul-lt-mul-right, div-eq-of-lt-le, mul-assoc, add-mul, mul-div-mul-right}
 use Rattle.model.specs.Frames.{Wholly, Changed}
 
 -- an aligned block that starts below a multiple of its size ends at or below it
@@ -21,6 +21,17 @@ child-no n f i r e h = div-eq-of-lt-le n (omega arith) (omega arith)
 
 pub child-at : (n f i r : ℕ) → f ≡ i * n + r → r < n → f % n ≡ r
 child-at n f i r e h = omega (arith, div-add-mod' f n, ap (λ (j : ℕ). j * n) (child-no n f i r e h))
+
+-- a remainder in pages, and in bytes
+pub scale-mod : (a n p : ℕ) → 0 < p → a * p % (n * p) ≡ a % n * p
+scale-mod a n p h = omega (
+  arith,
+  div-add-mod' (a * p) (n * p),
+  ap (λ (x : ℕ). x * (n * p)) (mul-div-mul-right a n h),
+  mul-assoc (a / n) n p,
+  ap (λ (x : ℕ). x * p) (div-add-mod' a n),
+  add-mul (a / n * n) (a % n) p,
+)
 
 -- the parts of a frame number
 module _ (n s b : ℕ) (pos : 0 < n) (sn : s ∣ n) (al : b % s ≡ 0) where

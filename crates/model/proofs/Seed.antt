@@ -1,23 +1,25 @@
--- What the store's calls need: seeding stores exactly its frames; the tests of release say what they should; regions' frames are counted.
-use mathlib.Core.Path.{_≡_, refl, _∙_}
-use mathlib.Core.Bool.{Bool, true, false, _&&_, and-eq-true-iff, true≢false}
+-- What seeding needs, and that it stores exactly its frames; the test of release for free frames says what it should. Assumes nothing.
+use mathlib.Core.Path.{_≡_, refl, sym, _∙_}
+use mathlib.Core.Bool.{Bool, true, false, _&&_, and-eq-true-iff, true≢false, false≢true}
 use Prim.Native.Nat.{ℕ, zero, suc, _+_, _*_, _-_, _/_, _%_, _≤_, _<_}
 use native.Mathlib.Omega.{arith}
 use native.Mathlib.Nat.{div-add-mod'}
+use native.Mathlib.Decide.{ℕ-discrete}
 use lib.Dec.{leb, ltb, eqb}
-use borrow.Author.Tests.{ltb-true, ltb-false, leb-true, eqb-true}
+use borrow.Author.Tests.{ltb-true, ltb-false, leb-true, eqb-true, le-ltb, le-leb, eq-eqb}
 use Rattle.sizes.specs.Ladder.{Ladder}
 use Rattle.model.specs.Ladder.{frames, top}
 use Rattle.model.specs.Frames.{Wholly, Changed}
 use Rattle.model.specs.Lists.{maximum}
 use Rattle.model.specs.Tree.{node, Tree, child, largest, free, Sound, store, pick}
 use Rattle.model.specs.TreeStore.{anyFree, largestFit, seedFrom}
-use Rattle.model.specs.Laws.{BlockIn}
+use Rattle.model.specs.Laws.{BlockIn, Made}
+use Rattle.model.specs.Rust.{ok}
 use Rattle.model.proofs.Ladder.{frames-pos, frames-dvd}
 use Rattle.model.proofs.Range.{child-no, child-at, same-child, shift}
 use Rattle.model.proofs.Frames.{changed-append, changed-id}
 use Rattle.model.proofs.Free.{quiet-free, frames-le, pick-lowest}
-use Rattle.model.proofs.Change.{place-down, Makes, store-done}
+use Rattle.model.proofs.Change.{place-down, store-done}
 
 module _ (L : Ladder) where
   -- the block that seeding stores next is aligned and ends in the region
@@ -33,6 +35,32 @@ module _ (L : Ladder) where
           let y = and-eq-true-iff (eqb (a % frames L (suc d)) 0) (leb (a + frames L (suc d)) e) .0 x in
           rw (x, largestFit) (omega arith, eqb-true (a % frames L (suc d)) 0 (y .0), leb-true (a + frames L (suc d)) e (y .1))
       go false x ih = rw (x, largestFit) (omega arith, ih .1, ih .2)
+
+  -- ... and no larger one is
+  pub largestFit-most : (d a e d' : ℕ) → d' ≤ d → a % frames L d' ≡ 0 → a + frames L d' ≤ e → d' ≤ largestFit L d a e
+  unfolding largestFit
+  largestFit-most zero a e d' l h k = l
+  largestFit-most (suc d) a e d' l h k = go (ℕ-discrete d' (suc d)) (eqb (a % frames L (suc d)) 0 && leb (a + frames L (suc d)) e) refl (λ m. largestFit-most d a e d' m h k)
+    where
+      go : Dec (d' ≡ suc d) → (x : Bool) → (eqb (a % frames L (suc d)) 0 && leb (a + frames L (suc d)) e) ≡ x → (d' ≤ d → d' ≤ largestFit L d a e) → d' ≤ largestFit L (suc d) a e
+      go p true x ih = rw (x, largestFit) l
+      go (no p) false x ih = rw (x, largestFit) (ih (omega arith))
+      go (yes p) false x ih = absurd (false≢true (sym x ∙ and-eq-true-iff (eqb (a % frames L (suc d)) 0) (leb (a + frames L (suc d)) e) .1
+          (eq-eqb (a % frames L (suc d)) 0 (rw p at h), le-leb (a + frames L (suc d)) e (rw p at k))))
+
+  -- turns enough for the region's frames are as good as any more
+  pub seed-turns : (j k : ℕ) (t : Tree (top L)) (a e : ℕ) → e ≤ a + j → e ≤ a + k → seedFrom L j t a e ≡ seedFrom L k t a e
+  unfolding seedFrom
+  seed-turns zero zero t a e x y = refl
+  seed-turns zero (suc k) t a e x y = rw (le-ltb a e (omega arith), seedFrom)
+  seed-turns (suc j) zero t a e x y = rw (le-ltb a e (omega arith), seedFrom)
+  seed-turns (suc j) (suc k) t a e x y = go (ltb a e) refl (seed-turns j k)
+    where
+      go : (v : Bool) → ltb a e ≡ v → ((t : Tree (top L)) (a e : ℕ) → e ≤ a + j → e ≤ a + k → seedFrom L j t a e ≡ seedFrom L k t a e) → seedFrom L (suc j) t a e ≡ seedFrom L (suc k) t a e
+      go false v ih = rw (v, seedFrom)
+      go true v ih =
+          let d = largestFit L (top L) a e in
+          rw (v, seedFrom) (ih (store L (top L) d t a) (a + frames L d) e (omega (arith, frames-pos L d)) (omega (arith, frames-pos L d)))
 
   -- seeding frees exactly the frames from a to e
   pub seed-done : (k : ℕ) (t : Tree (top L)) (a e m : ℕ) → Sound L (top L) t → a + m ≡ e → e ≤ frames L (top L) → m ≤ k → Wholly (free L (top L) t) a m false
@@ -54,7 +82,7 @@ module _ (L : Ladder) where
           ok : (largestFit L (top L) a e ≤ (top L)) × (a % frames L (largestFit L (top L) a e) ≡ 0) × (a + frames L (largestFit L (top L) a e) ≤ e)
           ok = largestFit-ok (top L) a e (ltb-true a e v)
 
-          r : Makes L (top L) c true t a (store L (top L) c t a)
+          r : Made L (top L) c true t a (store L (top L) c t a)
           r = store-done L (top L) c t a s (record { deep = ok .0; aligned = ok .1; fits = omega (arith, ok) }) (λ f p q. h f p (omega (arith, ok)))
 
           q : Changed (free L (top L) (store L (top L) c t a)) (free L (top L) (seedFrom L k (store L (top L) c t a) (a + frames L c) e)) (frames L (top L)) (a + frames L c) (m - frames L c) true × Sound L (top L) (seedFrom L k (store L (top L) c t a) (a + frames L c) e)

@@ -1,6 +1,6 @@
 -- The laws and demands of the six sizes: the one instance of what is proved over any ladder. Assumes nothing.
 use mathlib.Core.Path.{_≡_, refl}
-use Prim.Native.Nat.{ℕ, _≤_, zero-le}
+use Prim.Native.Nat.{ℕ, zero-le}
 use native.Mathlib.Omega.{arith}
 use Rattle.sizes.specs.Ladder.{largest as largest-code, bytes, fanOut}
 use Rattle.sizes.specs.Six.{six}
@@ -20,12 +20,12 @@ pub six-tables : OfTables six
 six-tables = of-tables six six-multiplies
 
 -- 128 TiB are below 2^64
-pub six-addressable : Addressable six
+six-addressable : Addressable six
 unfolding bytes largest-code word
 six-addressable = omega arith
 
 -- the fan-outs of the six sizes add up to 1,412
-pub fans-six : fans six (top six) 0 ≡ 1412
+fans-six : fans six (top six) 0 ≡ 1412
 unfolding fans fan top largest-code fanOut
 fans-six = refl
 
@@ -40,5 +40,5 @@ module _ (most n : ℕ) where
   pub six-demand3 : Demand3 six most n
   six-demand3 = demand3 six most n
 
-  pub six-as-original : 1 ≤ n → AsOriginal six most n
-  six-as-original = as-original six six-multiplies six-addressable most n
+  pub six-as-original : AsOriginal six most n
+  six-as-original = as-original six most n

@@ -7,11 +7,11 @@ use native.Mathlib.Omega.{arith}
 use Rattle.model.specs.Calls.{Test, refuse, verdict}
 
 -- every test failed
-abbrev pub Clear : List Test → Type 0
+abbrev Clear : List Test → Type 0
 Clear [] = Unit {0}
 Clear (refuse n v ∷ ts) = (v ≡ false) × Clear ts
 
-abbrev pub Numbered : List Test → Type 0
+abbrev Numbered : List Test → Type 0
 Numbered [] = Unit {0}
 Numbered (refuse n v ∷ ts) = (0 < n) × Numbered ts
 

@@ -1,11 +1,12 @@
--- The first sentence of demand 2: the original beside the tree store, driven by the same calls. The statement.
+-- Demand 2, 'after the same accepted calls from a fresh store, each page dealt and each "out of pages" is the Rust's': the statement on trees.
 use mathlib.Core.Path.{_≡_}
 use mathlib.Core.Bool.{Bool, true, false}
 use mathlib.Core.Option.{Option, none, some}
 use mathlib.Core.List.{List, [], _∷_}
-use Prim.Native.Nat.{ℕ, suc, _*_, _<_}
+use Prim.Native.Nat.{ℕ, suc, _*_, _≤_, _<_}
 use lib.Dec.{eqb}
 use Rattle.sizes.specs.Ladder.{Ladder, smallest, largest, bytes}
+use Rattle.sizes.specs.Laws.{MultipliesUp}
 use Rattle.model.specs.Ladder.{top}
 use Rattle.model.specs.Calls.{Call, seed, acquire, release, report, Answer, refused, stored, dealt, reported}
 use Rattle.model.specs.TreeStore.{State, fresh, step}
@@ -83,6 +84,6 @@ module _ (L : Ladder) where
     trees [] s = []
     trees (c ∷ cs) s = let o = step L most n s c in if mayMake c (o .answer) then told c (o .answer) ∷ trees cs (o .state) else trees cs (o .state)
 
-    -- from an empty allocator on, the original never panics, and each page dealt and each 'out of pages' is the tree store's
+    -- on a ladder whose sizes multiply up, from an empty allocator on, the original never panics, and each page dealt and each 'out of pages' is the tree store's
     abbrev pub AsOriginal : Type 0
-    AsOriginal = (cs : List Call) → originals cs (fresh L) (emptyAllocator (suc (top L))) ≡ gives (trees cs (fresh L))
+    AsOriginal = MultipliesUp L → Addressable → 1 ≤ n → (cs : List Call) → originals cs (fresh L) (emptyAllocator (suc (top L))) ≡ gives (trees cs (fresh L))

@@ -35,8 +35,8 @@ Cascade = lines 16384 (seed 0 34359738368 ∷ acquire 1 ∷ release 0 1 ∷ acqu
     ≡ line stored 1 ∷ line (dealt 0 5) 1418 ∷ line stored 1418 ∷ line (dealt 0 0) 1418 ∷ line (refused 8) 1418 ∷ []
 
 -- a single frame before a larger block: the lowest is dealt, not the one in the child that offers most
-abbrev pub Lowest : Type 0
-Lowest = lines 16384 (seed 524291 524296 ∷ acquire 1 ∷ []) ≡ line stored 1418 ∷ line (dealt 524291 10) 1418 ∷ []
+abbrev pub LowestFirst : Type 0
+LowestFirst = lines 16384 (seed 524291 524296 ∷ acquire 1 ∷ []) ≡ line stored 1418 ∷ line (dealt 524291 10) 1418 ∷ []
 
 -- a frame inside a free page, and a page one of whose frames is free, are not taken back
 abbrev pub Inside : Type 0

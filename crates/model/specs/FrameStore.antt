@@ -21,10 +21,11 @@ unfoldable pub firstBelow : (ℕ → Bool) → ℕ → ℕ
 firstBelow p zero = 0
 firstBelow p (suc n) = cond (p 0) 0 (suc (firstBelow (λ i. p (suc i)) n))
 
--- every frame of the block of s frames at b is in g, none is
+-- every frame of the block of s frames at b is in g
 unfoldable pub whole : (ℕ → Bool) → (b s : ℕ) → Bool
 whole g b s = allBelow (λ j. g (b + j)) s
 
+-- no frame of it is
 unfoldable pub bare : (ℕ → Bool) → (b s : ℕ) → Bool
 bare g b s = allBelow (λ j. not (g (b + j))) s
 
@@ -34,21 +35,23 @@ pub record Frames : Type 0 where
   pub regions : List Region
 
 module _ (L : Ladder) where
-  -- the frames of memory, of a block of the code
+  -- how many frames memory has
   abbrev pub memory : ℕ
   memory = frames L (top L)
 
+  -- how many frames a block of the code has
   abbrev pub size : ℕ → ℕ
   size c = frames L (pred c)
 
-  -- how many aligned blocks of the code there are, and the number of the lowest that is wholly free
+  -- how many aligned blocks of the code there are
   abbrev pub blocks : ℕ → ℕ
   blocks c = memory / size c
 
+  -- the number of the lowest of them that is wholly in g
   unfoldable pub lowestFree : (ℕ → Bool) → ℕ → ℕ
   lowestFree g c = firstBelow (λ i. whole g (i * size c) (size c)) (blocks c)
 
-  -- the largest code, c at most, of which a block is wholly free
+  -- the largest code, c at most, of which a block is wholly in g
   unfoldable pub largestFree : (ℕ → Bool) → ℕ → ℕ
   largestFree g zero = 0
   largestFree g (suc c) = cond (ltb (lowestFree g (suc c)) (blocks (suc c))) (suc c) (largestFree g c)

@@ -6,7 +6,7 @@ use lib.Dec.{ltb}
 use Rattle.sizes.specs.Ladder.{Ladder, largest, fanOut}
 
 module _ (L : Ladder) where
-  -- how many children a node of code suc d has: its fan-out. Past the largest code no node stands; 2 there keeps the laws free of bounds
+  -- how many children a node of code suc d has: its fan-out. Where the table has less than 2 no node with children stands; 2 there keeps the laws free of bounds
   unfoldable pub fan : ℕ → ℕ
   fan d = max 2 (fanOut L (suc d))
 

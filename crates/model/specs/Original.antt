@@ -57,7 +57,7 @@ unfoldable pub «acquire_page_token_from_this_node» : (c : ℕ) → PageStorage
   page ← unwrap (self .«page_token»)
   gives (page, record { «page_token» = none; «max_allocable_page_size» = none; children = self .children })
 
--- below, c is the children's code where a node of code suc c is changed, and else the node's own
+-- in the functions that change a node of code suc c, c is its children's code
 module _ (L : Ladder) where
   -- the largest page size that is aligned at the address and ends in the region, from a size that is aligned
   unfoldable pub «find_largest_page_size» : (size address end : ℕ) → Ends ℕ
@@ -158,7 +158,7 @@ module _ (L : Ladder) where
         gives (ok page, record { «page_token» = divided .«page_token»; «max_allocable_page_size» = maxOfAll (maxOf c) children; children = children })))
 
   -- the loop below, with the size of the turn before
-  unfoldable pub regionLoop : (turns c base size address end : ℕ) → PageStorageTreeNode c → Ends (PageStorageTreeNode c)
+  unfoldable pub regionLoop : (turns c base before address end : ℕ) → PageStorageTreeNode c → Ends (PageStorageTreeNode c)
   regionLoop zero c base before address end root = panics
   regionLoop (suc n) c base before address end root = do
     size ← «find_largest_page_size» before address end
@@ -179,10 +179,6 @@ module _ (L : Ladder) where
     ensure (leb end (bytes L c)) TooMuchMemory self (do
       root ← regionLoop (end - start) c (self .«base_address») smallest start end (self .root)
       gives (ok tt, record { «base_address» = self .«base_address»; root = root }))
-
-  -- a new allocator with one region
-  unfoldable pub initialize : (c start end : ℕ) → Ends (Result (Unit {0}) Error × PageAllocator c)
-  initialize c start end = «add_memory_region» c start end (emptyAllocator c)
 
   -- takes a page of the size
   unfoldable pub «acquire_page» : (c want : ℕ) → PageAllocator c → Ends (Result Page Error × PageAllocator c)

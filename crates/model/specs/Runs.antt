@@ -1,4 +1,4 @@
--- Sequences of calls from a fresh store, refusals included, and the frames that they hold. A store is any states with a fresh one and a step.
+-- Sequences of calls from a fresh store, refusals included, and the frames that they hold. A store is any type of states with a step.
 use mathlib.Core.Logic.{_≢_}
 use mathlib.Core.Bool.{Bool, true, false}
 use mathlib.Core.List.{List, [], _∷_}
@@ -12,6 +12,10 @@ use Rattle.model.specs.Calls.{Region, Call, seed, acquire, release, repo
 pub record Run (S : Type 0) : Type 0 where
   pub state : S
   pub held : ℕ → Bool
+
+-- nothing is held before the first call
+abbrev pub start : {S : Type 0} → S → Run S
+start fresh = record { state = fresh; held = λ f. false }
 
 module _ (L : Ladder) where
   -- the held frames after a call, reckoned from the call and its answer alone: dealt frames are held, released ones are no more
@@ -27,25 +31,22 @@ module _ (L : Ladder) where
   reckon (release b c) (reported x y z) h = h
   reckon report x h = h
 
-  module _ {S : Type 0} (fresh : S) (step : S → Call → Outcome S) where
-    abbrev pub start : Run S
-    start = record { state = fresh; held = λ f. false }
-
+  module _ {S : Type 0} (step : S → Call → Outcome S) where
     -- one call more
     abbrev pub next : Run S → Call → Run S
     next r c = let o = step (r .state) c in record { state = o .state; held = reckon c (o .answer) (r .held) }
 
     -- the calls in order, after those of r
-    unfoldable pub run : List Call → Run S → Run S
-    run [] r = r
-    run (c ∷ cs) r = run cs (next r c)
+    unfoldable pub run : Run S → List Call → Run S
+    run r [] = r
+    run r (c ∷ cs) = run (next r c) cs
 
     -- a store newly seeded with the regions, the oldest first
-    unfoldable pub reseed : List Region → Run S
-    reseed [] = start
-    reseed (r ∷ rs) = next (reseed rs) (seed (r .start) (r .end))
+    unfoldable pub reseed : (fresh : S) → List Region → Run S
+    reseed fresh [] = start fresh
+    reseed fresh (r ∷ rs) = next (reseed fresh rs) (seed (r .start) (r .end))
 
     -- ... that lacks pool room for none of them
-    abbrev pub Roomy : List Region → Type 0
-    Roomy [] = Unit {0}
-    Roomy (r ∷ rs) = Roomy rs × (step (reseed rs .state) (seed (r .start) (r .end)) .answer ≢ refused 9)
+    abbrev pub Roomy : (fresh : S) → List Region → Type 0
+    Roomy fresh [] = Unit {0}
+    Roomy fresh (r ∷ rs) = Roomy fresh rs × (step (reseed fresh rs .state) (seed (r .start) (r .end)) .answer ≢ refused 9)

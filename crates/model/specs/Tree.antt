@@ -89,6 +89,16 @@ module _ (L : Ladder) where
   handedOn d true ks = map (mark d true) (opened d ks)
   handedOn d false ks = opened d ks
 
+  -- the words that opening a node whose children are ks takes
+  abbrev pub opening : (d : ℕ) → List (Tree d) → ℕ
+  opening d [] = suc (fan L (suc d))
+  opening d (k ∷ ks) = 0
+
+  -- the words that opening every unopened proper ancestor of the block of code suc d' at frame b takes
+  unfoldable pub openings : (d d' : ℕ) → Tree d → ℕ → ℕ
+  openings zero d' v b = 0
+  openings (suc d) d' (node v ks) b = elim (ltb d' (suc d)) [ false ↦ 0 | true ↦ opening d ks + openings d d' (child d ks (b / frames L d)) (b % frames L d) ]
+
   -- store the block of code suc d' at frame b: opening on the way down, merging on the way up
   unfoldable pub store : (d d' : ℕ) → Tree d → ℕ → Tree d
   store zero d' v b = true

@@ -36,7 +36,7 @@ module _ (L : Ladder) where
     | true ↦ anyFree d d' (child d ks (b / frames L d)) (b % frames L d)
   ]
 
-  -- suc of it is the largest code, suc d at most, of a block that is aligned at a and ends at or before e; 0 where only a frame does
+  -- for a < e, one less than the largest code, suc d at most, of a block that is aligned at a and ends at or before e
   unfoldable pub largestFit : (d a e : ℕ) → ℕ
   largestFit zero a e = 0
   largestFit (suc d) a e = elim (eqb (a % frames L (suc d)) 0 && leb (a + frames L (suc d)) e) [ true ↦ suc d | false ↦ largestFit d a e ]
