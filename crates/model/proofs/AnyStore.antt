@@ -15,10 +15,8 @@ use Rattle.model.specs.FrameStore.{Frames, memory, size, lowestFree, Sam
 use Rattle.model.specs.Runs.{Run, start, reckon, next, run, reseed, Roomy}
 use Rattle.model.proofs.Frames.{bit-zero, bit-one}
 use Rattle.model.proofs.FrameStore.{bare-iff, same-self}
+use Rattle.model.proofs.Verdict.{never}
 use Rattle.model.proofs.FrameRuns.{dealable, Split, free-unheld, split-act}
-
-never : _≡_ {A = ℕ} 0 1 → ⊥
-never e = omega arith
 
 -- is the answer 9
 nine : (x : Answer) → Dec (x ≡ refused 9)
@@ -53,8 +51,6 @@ module _ (L : Ladder) (most : ℕ) where
 
   -- the sound states of a store answer as the frame store, for any frames that they show; they stay sound, and 9 leaves them
   pub record Answers {S : Type 0} (step : S → Call → Outcome S) (shown : S → Frames) (Good : S → Type 0) : Type 0 where
-    pub fit : (s : S) → Good s → Regions (memory L) (shown s .regions)
-    pub few : (s : S) → Good s → length (shown s .regions) ≤ most
     pub keeps : (s : S) → Good s → (c : Call) → Good (step s c .state)
     pub answer : (s : S) (g : Frames) → Good s → Same L (shown s) g → (c : Call) → step s c .answer ≢ refused 9 → step s c .answer ≡ frameStep L most g c .answer
     pub leaves : (s : S) (g : Frames) → Good s → Same L (shown s) g → (c : Call) → step s c .answer ≢ refused 9 → Same L (shown (step s c .state)) (frameStep L most g c .state)
@@ -69,9 +65,6 @@ module _ (L : Ladder) (most : ℕ) where
     inv-next : (r : Run S) → Inv r → (c : Call) → Inv (next L step r c)
     inv-next r i c = record { good = a .keeps (r .state) (i .good) c; split = go (nine (step (r .state) c .answer)) }
       where
-        s : S
-        s = r .state
-
         go : Dec (step (r .state) c .answer ≡ refused 9) → Split L (shown (step (r .state) c .state)) (reckon L c (step (r .state) c .answer) (r .held))
         go (yes e) = rw (e, a .stays (r .state) (i .good) c e, reckon-refused c 9 (r .held)) (i .split)
         go (no e) = rw (a .answer (r .state) (shown (r .state)) (i .good) (same-self L (shown (r .state))) c e)

@@ -27,6 +27,7 @@ use Rattle.model.proofs.Count.{freeFrames-count}
 use Rattle.model.proofs.Regions.{apart-iff, seeded-count, covered-iff}
 use Rattle.model.proofs.Seed.{seed-done, anyFree-false, anyFree-true}
 use Rattle.model.proofs.FrameStore.{same-test, same-order, whole-iff, bare-iff, not-bare, lowestFree-le, lowestFree-lowest, block-stands}
+use Rattle.model.proofs.Verdict.{never}
 
 -- a tree's tests beside the frame store's: each pair says the same once the earlier ones have passed; past them all the tree may test for room, which w says is missing, and P holds
 data Beside (w : Bool) (P : Type 0) : List Test → List Test → Type 0 where
@@ -64,10 +65,10 @@ module _ (L : Ladder) where
   -- what a call does where it is accepted is no refusal
   never-refused : (s : State L) (c : Call) (k : ℕ) → act L s c .answer ≢ refused k
   unfolding act
-  never-refused s (seed a e) k q = let z : _≡_ {A = ℕ} 0 1 = cc in omega arith
-  never-refused s (acquire c) k q = let z : _≡_ {A = ℕ} 0 1 = cc in omega arith
-  never-refused s (release b c) k q = let z : _≡_ {A = ℕ} 0 1 = cc in omega arith
-  never-refused s report k q = let z : _≡_ {A = ℕ} 0 1 = cc in omega arith
+  never-refused s (seed a e) k q = never cc
+  never-refused s (acquire c) k q = never cc
+  never-refused s (release b c) k q = never cc
+  never-refused s report k q = never cc
 
   module _ (most n : ℕ) (s : State L) (g : Frames) where
     -- an accepted call answers and leaves the same, and keeps the state sound

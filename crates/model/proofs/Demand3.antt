@@ -27,8 +27,6 @@ use Rattle.model.proofs.AnyStore.{Answers, Inv, inv-run, deals-unheld, 
 module _ (L : Ladder) (most n : ℕ) where
   pub answers : Answers L most (step L most n) (shown L) (SoundState L most n)
   answers = record {
-    fit = λ s i. i .fit;
-    few = λ s i. i .few;
     keeps = λ s i c. demand2 L most n s (shown L s) i (same-self L (shown L s)) c .keeps;
     answer = λ s g i w c. demand2 L most n s g i w c .answer;
     leaves = λ s g i w c. demand2 L most n s g i w c .leaves;

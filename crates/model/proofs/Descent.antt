@@ -8,7 +8,7 @@ use lib.Dec.{leb}
 use lib.ListN.{length, length-map}
 use borrow.Author.Tests.{le-leb}
 use Rattle.sizes.specs.Ladder.{Ladder}
-use Rattle.model.specs.Ladder.{frames, top}
+use Rattle.model.specs.Ladder.{frames}
 use Rattle.model.specs.Lists.{maximum, first}
 use Rattle.model.specs.Tree.{node, Tree, token, empty, mark, child, largest, SoundNode, Sound, opened, handedOn, pick}
 use Rattle.model.proofs.Ladder.{fan-pos}

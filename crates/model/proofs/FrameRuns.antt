@@ -4,8 +4,7 @@ use mathlib.Core.Bool.{Bool, true, false}
 use Prim.Native.Nat.{ℕ, suc, pred, _+_, _*_, _-_, _≤_, _<_}
 use native.Mathlib.Omega.{arith}
 use native.Mathlib.Nat.{mul-le-mul-right, div-add-mod'}
-use lib.ListN.{length}
-use borrow.Author.Tests.{ltb-false, leb-false, eqb-false, not-false}
+use borrow.Author.Tests.{ltb-false, leb-false, not-false}
 use Rattle.sizes.specs.Ladder.{Ladder}
 use Rattle.model.specs.Ladder.{top}
 use Rattle.model.specs.Frames.{Wholly, paint, bit}
@@ -13,7 +12,6 @@ use Rattle.model.specs.Calls.{seeded, Call, seed, acquire, release, repo
 use Rattle.model.specs.FrameStore.{whole, bare, Frames, memory, size, blocks, lowestFree, frameAct, refusals}
 use Rattle.model.specs.Laws.{BlockIn}
 use Rattle.model.specs.Runs.{reckon}
-use Rattle.model.proofs.Range.{fits}
 use Rattle.model.proofs.Frames.{changed-id, painted, bit-le, bit-zero, bit-one, Adds, adds-changed}
 use Rattle.model.proofs.FrameStore.{whole-iff, bare-iff, firstBelow-first, block-stands}
 use Rattle.model.proofs.Verdict.{clear}
@@ -23,7 +21,6 @@ module _ (L : Ladder) (most : ℕ) (g : Frames) where
   pub record Seedable (a e : ℕ) : Type 0 where
     pub some : a < e
     pub ends : e ≤ memory L
-    pub few : length (g .regions) < most
     pub unseeded : Wholly (seeded (g .regions)) a (e - a) false
 
   seedable : (a e : ℕ) → verdict (refusals L most g (seed a e)) ≡ 0 → Seedable a e
@@ -33,14 +30,11 @@ module _ (L : Ladder) (most : ℕ) (g : Frames) where
       record {
         some = leb-false e a (t .0);
         ends = ltb-false (memory L) e (t .1 .0);
-        few = leb-false most (length (g .regions)) (t .1 .1 .0);
         unseeded = bare-iff (seeded (g .regions)) a (e - a) .0 (not-false (bare (seeded (g .regions)) a (e - a)) (t .1 .1 .1 .0));
       }
 
   -- the lowest free block of the code
   pub record Dealable (c b : ℕ) : Type 0 where
-    pub low : 0 < c
-    pub high : pred c ≤ top L
     pub fits : b + size L c ≤ memory L
     pub whole : Wholly (g .free) b (size L c) true
 
@@ -51,16 +45,12 @@ module _ (L : Ladder) (most : ℕ) (g : Frames) where
       let i = lowestFree L (g .free) c in
       let l : i < blocks L c = leb-false (blocks L c) i (t .1 .1 .0) in
       record {
-        low = omega (arith, eqb-false c 0 (t .0));
-        high = omega (arith, ltb-false (suc (top L)) c (t .1 .0));
         fits = omega (arith, mul-le-mul-right (size L c) l, div-add-mod' (memory L) (size L c));
         whole = whole-iff (g .free) (i * size L c) (size L c) .0 (firstBelow-first (λ j. whole (g .free) (j * size L c) (size L c)) (blocks L c) .passes l);
       }
 
   -- a block that is held
   pub record Releasable (b c : ℕ) : Type 0 where
-    pub low : 0 < c
-    pub high : pred c ≤ top L
     pub stands : BlockIn L (top L) (pred c) b
     pub inside : Wholly (seeded (g .regions)) b (size L c) true
     pub taken : Wholly (g .free) b (size L c) false
@@ -71,8 +61,6 @@ module _ (L : Ladder) (most : ℕ) (g : Frames) where
       let t = clear (refusals L most g (release b c)) (omega arith) v in
       let high : pred c ≤ top L = omega (arith, ltb-false (suc (top L)) c (t .1 .0)) in
       record {
-        low = omega (arith, eqb-false c 0 (t .0));
-        high = high;
         stands = block-stands L b (pred c) high (t .1 .1 .0) (t .1 .1 .1 .0);
         inside = whole-iff (seeded (g .regions)) b (size L c) .0 (not-false (whole (seeded (g .regions)) b (size L c)) (t .1 .1 .1 .1 .0));
         taken = bare-iff (g .free) b (size L c) .0 (not-false (bare (g .free) b (size L c)) (t .1 .1 .1 .1 .1 .0));

@@ -2,7 +2,7 @@
 use mathlib.Core.Path.{_≡_, refl, sym, ap, _∙_}
 use Prim.Native.Nat.{ℕ, zero, suc, pred, _*_, _≤_, _<_, _∣_}
 use native.Mathlib.Omega.{arith}
-use native.Mathlib.Nat.{mul-pos, mul-assoc, dvd-refl, dvd-mul-left-of-dvd, not-suc-le-zero}
+use native.Mathlib.Nat.{mul-pos, mul-assoc, dvd-refl, dvd-mul-left-of-dvd}
 use native.Mathlib.Decide.{le-ind}
 use Rattle.sizes.specs.Ladder.{Ladder, smallest, largest as largest-code, bytes, fanOut, smaller, frames as framesOf}
 use Rattle.sizes.specs.Laws.{MultipliesUp}
@@ -29,10 +29,6 @@ module _ (L : Ladder) where
     where
       step : (m : ℕ) → d' ≤ m → frames L d' ∣ frames L m → frames L d' ∣ frames L (suc m)
       step m k e = dvd-mul-left-of-dvd (frames L d') e (fan L (suc m))
-
-suc-pred : (n : ℕ) → 0 < n → n ≡ suc (pred n)
-suc-pred zero h = absurd (not-suc-le-zero h)
-suc-pred (suc n) h = refl
 
 -- where sizes multiply up, fan-outs, frames and bytes are those of the tables
 module _ (L : Ladder) (m : MultipliesUp L) where
@@ -67,4 +63,4 @@ module _ (L : Ladder) (m : MultipliesUp L) where
 
   pub largest-top : largest-code L ≡ suc (top L)
   unfolding top
-  largest-top = suc-pred (largest-code L) (m .some)
+  largest-top = let z : largest-code L ≡ suc (pred (largest-code L)) = omega (arith, m .some) in z

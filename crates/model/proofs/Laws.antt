@@ -13,7 +13,7 @@ use Rattle.sizes.specs.Laws.{MultipliesUp, Fits, LargestFit}
 use Rattle.model.specs.Ladder.{frames, top}
 use Rattle.model.specs.Frames.{Wholly, Changed, paint}
 use Rattle.model.specs.Calls.{Region, seeded, Regions}
-use Rattle.model.specs.FrameStore.{memory, size}
+use Rattle.model.specs.FrameStore.{memory}
 use Rattle.model.specs.Tree.{Tree, free, freeFrames, Sound, pick}
 use Rattle.model.specs.TreeStore.{anyFree, largestFit, seedFrom}
 use Rattle.model.specs.Laws.{RegionLaws, Straddles, OfTables, ProbeLaws, BlockIn, Alike, TreeLaws, SeedLaws, Laws}

@@ -1,3 +1,4 @@
+pub mod Cases
 pub mod Ladder
 pub mod Range
 pub mod Frames
@@ -26,4 +27,4 @@ pub mod OriginalTake
 pub mod OriginalSeed
 pub mod AsOriginal
 pub mod Six
-pub mod Cases
+pub mod OriginalCases

@@ -13,8 +13,6 @@ use Rattle.sizes.specs.Ladder.{Ladder, smallest, largest as largest-code, bytes
 use Rattle.sizes.specs.Laws.{MultipliesUp}
 use Rattle.model.specs.Ladder.{frames, top}
 use Rattle.model.specs.Frames.{Wholly}
-use Rattle.model.specs.Calls.{stored}
-use Rattle.model.specs.FrameStore.{bare}
 use Rattle.model.specs.Tree.{Tree, largest, free, Sound, store, remove, pick}
 use Rattle.model.specs.TreeStore.{largestFit, seedFrom}
 use Rattle.model.specs.Laws.{BlockIn, Made}
@@ -25,8 +23,7 @@ use Rattle.model.specs.AsOriginal.{Addressable}
 use Rattle.model.proofs.Ladder.{frames-pos, frames-dvd, bytes-is, bytes-some, smaller-suc, largest-top}
 use Rattle.model.proofs.Range.{scale-mod}
 use Rattle.model.proofs.Change.{store-done}
-use Rattle.model.proofs.Seed.{largestFit-ok}
-use Rattle.model.proofs.Descent.{down}
+use Rattle.model.proofs.Seed.{largestFit-ok, seed-end}
 use Rattle.model.proofs.Picture.{NodeAt, picture, allocator}
 use Rattle.model.proofs.OriginalStore.{store-is}
 use Rattle.model.proofs.OriginalTake.{acquire-none, acquire-is}
@@ -80,12 +77,6 @@ module _ (L : Ladder) where
         where
           aligned : a % frames L (suc d) ≡ 0 → a % frames L (suc c) ≡ 0
           aligned q = mod-eq-zero-of-dvd (frames L (suc c)) (dvd-trans (frames L (suc c)) (frames-dvd L (suc c) (suc d) (omega arith)) (dvd-of-mod-eq-zero (frames L (suc d)) q))
-
-  -- seeding that has come to the end
-  seed-end : (k : ℕ) (t : Tree (top L)) (a e : ℕ) → e ≤ a → seedFrom L k t a e ≡ t
-  unfolding seedFrom
-  seed-end zero t a e h = refl
-  seed-end (suc k) t a e h = rw (le-ltb a e h, seedFrom)
 
   larger-is : (d : ℕ) → suc d < largest-code L → larger L (suc d) ≡ suc (suc d)
   unfolding larger

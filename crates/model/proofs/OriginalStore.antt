@@ -12,7 +12,6 @@ use Rattle.sizes.specs.Ladder.{Ladder, smallest, bytes}
 use Rattle.sizes.specs.Laws.{MultipliesUp}
 use Rattle.model.specs.Ladder.{fan, frames}
 use Rattle.model.specs.Frames.{Wholly}
-use Rattle.model.specs.FrameStore.{bare}
 use Rattle.model.specs.Lists.{maximum}
 use Rattle.model.specs.Tree.{node, Tree, empty, mark, child, largest, merge, free, Sound, opened, handedOn, store}
 use Rattle.model.specs.Laws.{BlockIn, Made}

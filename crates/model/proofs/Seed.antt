@@ -14,7 +14,6 @@ use Rattle.model.specs.Lists.{maximum}
 use Rattle.model.specs.Tree.{node, Tree, child, largest, free, Sound, store, pick}
 use Rattle.model.specs.TreeStore.{anyFree, largestFit, seedFrom}
 use Rattle.model.specs.Laws.{BlockIn, Made}
-use Rattle.model.specs.Rust.{ok}
 use Rattle.model.proofs.Ladder.{frames-pos, frames-dvd}
 use Rattle.model.proofs.Range.{child-no, child-at, same-child, shift}
 use Rattle.model.proofs.Frames.{changed-append, changed-id}
@@ -48,12 +47,17 @@ module _ (L : Ladder) where
       go (yes p) false x ih = absurd (false≢true (sym x ∙ and-eq-true-iff (eqb (a % frames L (suc d)) 0) (leb (a + frames L (suc d)) e) .1
           (eq-eqb (a % frames L (suc d)) 0 (rw p at h), le-leb (a + frames L (suc d)) e (rw p at k))))
 
+  -- seeding that has come to the end
+  pub seed-end : (k : ℕ) (t : Tree (top L)) (a e : ℕ) → e ≤ a → seedFrom L k t a e ≡ t
+  unfolding seedFrom
+  seed-end zero t a e h = refl
+  seed-end (suc k) t a e h = rw (le-ltb a e h, seedFrom)
+
   -- turns enough for the region's frames are as good as any more
   pub seed-turns : (j k : ℕ) (t : Tree (top L)) (a e : ℕ) → e ≤ a + j → e ≤ a + k → seedFrom L j t a e ≡ seedFrom L k t a e
   unfolding seedFrom
-  seed-turns zero zero t a e x y = refl
-  seed-turns zero (suc k) t a e x y = rw (le-ltb a e (omega arith), seedFrom)
-  seed-turns (suc j) zero t a e x y = rw (le-ltb a e (omega arith), seedFrom)
+  seed-turns zero k t a e x y = sym (seed-end k t a e (omega arith))
+  seed-turns (suc j) zero t a e x y = seed-end (suc j) t a e (omega arith)
   seed-turns (suc j) (suc k) t a e x y = go (ltb a e) refl (seed-turns j k)
     where
       go : (v : Bool) → ltb a e ≡ v → ((t : Tree (top L)) (a e : ℕ) → e ≤ a + j → e ≤ a + k → seedFrom L j t a e ≡ seedFrom L k t a e) → seedFrom L (suc j) t a e ≡ seedFrom L (suc k) t a e

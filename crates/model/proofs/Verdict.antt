@@ -2,7 +2,7 @@
 use mathlib.Core.Path.{_≡_, refl}
 use mathlib.Core.Bool.{true, false}
 use mathlib.Core.List.{List, [], _∷_}
-use Prim.Native.Nat.{_<_}
+use Prim.Native.Nat.{ℕ, _<_}
 use native.Mathlib.Omega.{arith}
 use Rattle.model.specs.Calls.{Test, refuse, verdict}
 
@@ -20,3 +20,7 @@ pub clear : (ts : List Test) → Numbered ts → verdict ts ≡ 0 → Clear ts
 clear [] p e = tt
 clear (refuse n true ∷ ts) p e = absurd (omega arith)
 clear (refuse n false ∷ ts) p e = (refl, clear ts (p .1) e)
+
+-- two answers of different kinds are never one
+pub never : _≡_ {A = ℕ} 0 1 → ⊥
+never e = omega arith

@@ -11,7 +11,6 @@ use Rattle.sizes.specs.Ladder.{Ladder}
 use Rattle.model.specs.Ladder.{fan, frames}
 use Rattle.model.specs.Lists.{sum, all}
 use Rattle.model.specs.Tree.{node, Tree, token, empty, mark, child, words, merge, Sound, opened, handedOn, opening, openings, store, remove}
-use Rattle.model.specs.Rust.{ok}
 use Rattle.model.proofs.Ladder.{fan-pos, frames-pos}
 use Rattle.model.proofs.Lists.{getD-map-lt}
 use Rattle.model.proofs.Change.{child-lt, opened-child, opened-length, handedOn-length, handedOn-sound}

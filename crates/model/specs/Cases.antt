@@ -1,16 +1,13 @@
--- Short journals on the tree of the six sizes, computed: a check of the definitions by example. Frame 524288 is address 2147483648.
+-- Short journals, computed: a check of the definitions by example. On the tree of the six sizes frame 524288 is address 2147483648.
 use mathlib.Core.Path.{_≡_}
-use mathlib.Core.Option.{none, some}
 use mathlib.Core.List.{List, [], _∷_}
-use Prim.Native.Nat.{ℕ, suc}
+use mathlib.Core.Bool.{false}
+use Prim.Native.Nat.{ℕ}
+use Rattle.sizes.specs.Ladder.{Ladder}
 use Rattle.sizes.specs.Six.{six}
-use Rattle.model.specs.Ladder.{top}
 use Rattle.model.specs.Calls.{Call, seed, acquire, release, report, Answer, refused, stored, dealt, reported}
+use Rattle.model.specs.FrameStore.{Frames, frameStep}
 use Rattle.model.specs.TreeStore.{State, used, fresh, step}
-use Rattle.model.specs.Rust.{gives, ok, err}
-use Rattle.model.specs.StandIns.{OutOfPages, init}
-use Rattle.model.specs.Original.{emptyAllocator}
-use Rattle.model.specs.AsOriginal.{originals}
 
 -- a line of a journal's run: the answer, and the pool words in use behind it
 pub data Line : Type 0 where
@@ -59,17 +56,16 @@ TooShort = lines 1412 (seed 524288 524292 ∷ acquire 1 ∷ []) ≡ line (refuse
 abbrev pub JustFits : Type 0
 JustFits = lines 1413 (seed 524288 524292 ∷ acquire 1 ∷ acquire 2 ∷ []) ≡ line stored 1413 ∷ line (refused 9) 1413 ∷ line (dealt 524288 6) 1413 ∷ []
 
--- document 01's journal put to the original; the release that the store refuses is not made, and a report has no page
-abbrev pub OriginalJournal : Type 0
-OriginalJournal = originals six 2 16384 (seed 524288 524294 ∷ acquire 1 ∷ acquire 2 ∷ acquire 1 ∷ release 524288 1 ∷ release 524288 1 ∷ acquire 1 ∷ []) (fresh six) (emptyAllocator (suc (top six)))
-    ≡ gives (ok none ∷ ok (some (init 2147483648 1)) ∷ err OutOfPages ∷ ok (some (init 2147487744 1)) ∷ ok none ∷ ok (some (init 2147483648 1)) ∷ [])
+-- two sizes: a frame, and a page of four frames
+abbrev pub small : Ladder
+small = record { sizes = 0 ∷ 4096 ∷ 16384 ∷ []; fanOuts = 0 ∷ 0 ∷ 4 ∷ [] }
 
--- the last free page dealt and given back: max falls to none, and rises again
-abbrev pub OriginalDrained : Type 0
-OriginalDrained = originals six 2 16384 (seed 524288 524289 ∷ acquire 1 ∷ acquire 1 ∷ release 524288 1 ∷ acquire 1 ∷ []) (fresh six) (emptyAllocator (suc (top six)))
-    ≡ gives (ok none ∷ ok (some (init 2147483648 1)) ∷ err OutOfPages ∷ ok none ∷ ok (some (init 2147483648 1)) ∷ [])
+-- the answers of the frame store to a journal, for at most one region
+unfoldable pub answersFrom : List Call → Frames → List Answer
+answersFrom [] g = []
+answersFrom (c ∷ cs) g = let o = frameStep small 1 g c in o .answer ∷ answersFrom cs (o .state)
 
--- a page merged again and dealt: a part of it given back does not bring the rest back
-abbrev pub OriginalParts : Type 0
-OriginalParts = originals six 2 16384 (seed 524288 524292 ∷ acquire 1 ∷ release 524288 1 ∷ acquire 2 ∷ release 524288 1 ∷ acquire 2 ∷ acquire 1 ∷ []) (fresh six) (emptyAllocator (suc (top six)))
-    ≡ gives (ok none ∷ ok (some (init 2147483648 1)) ∷ ok none ∷ ok (some (init 2147483648 2)) ∷ ok none ∷ err OutOfPages ∷ ok (some (init 2147483648 1)) ∷ [])
+-- the frame store on them: the lowest frame, out of pages, a frame that is free, one past memory, and the page whole again
+abbrev pub FrameJournal : Type 0
+FrameJournal = answersFrom (seed 0 4 ∷ acquire 1 ∷ acquire 1 ∷ acquire 2 ∷ report ∷ release 2 1 ∷ release 1 1 ∷ release 4 1 ∷ release 0 1 ∷ acquire 2 ∷ []) (record { free = λ f. false; regions = [] })
+    ≡ stored ∷ dealt 0 1 ∷ dealt 1 2 ∷ refused 8 ∷ reported 4 2 1 ∷ refused 7 ∷ stored ∷ refused 3 ∷ stored ∷ dealt 0 0 ∷ []

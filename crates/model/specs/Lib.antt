@@ -8,8 +8,9 @@ pub mod TreeStore
 pub mod Laws
 pub mod Runs
 pub mod Demands
+pub mod Cases
 pub mod Rust
 pub mod StandIns
 pub mod Original
 pub mod AsOriginal
-pub mod Cases
+pub mod OriginalCases
