@@ -27,7 +27,7 @@ token-mark : (d : ℕ) (v : Bool) (t : Tree d) → token d (mark d v t) ≡ v
 token-mark zero v t = refl
 token-mark (suc d) v (node u ks) = refl
 
-token-empty : (d : ℕ) → token d (empty d) ≡ false
+pub token-empty : (d : ℕ) → token d (empty d) ≡ false
 token-empty zero = refl
 token-empty (suc d) = refl
 
@@ -76,7 +76,7 @@ module _ (L : Ladder) where
   sound-mark (suc d) v (node false ks) s e = record { shape = s .shape; children = s .children; quiet = e; gap = s .gap }
 
   -- a sound token node that loses its token offers nothing
-  unmark-quiet : (d : ℕ) (t : Tree d) → Sound L d t → token d t ≡ true → largest d (mark d false t) ≡ 0
+  pub unmark-quiet : (d : ℕ) (t : Tree d) → Sound L d t → token d t ≡ true → largest d (mark d false t) ≡ 0
   unfolding largest
   unmark-quiet zero t s e = refl
   unmark-quiet (suc d) (node true ks) s e = s .quiet refl

@@ -9,6 +9,8 @@ pub mod Count
 pub mod Words
 pub mod Regions
 pub mod Seed
+pub mod SeedRoom
+pub mod SeedWords
 pub mod Descent
 pub mod Probes
 pub mod FrameStore

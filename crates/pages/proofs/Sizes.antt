@@ -1,0 +1,49 @@
+-- The six sizes by the level of a node, as the tables of `sizes` have them. Assumes nothing.
+use mathlib.Core.Path.{_≡_, refl, sym, ap, ap₂, _∙_}
+use Prim.Native.Nat.{ℕ, zero, suc, _+_, _*_, _/_, _≤_, _<_}
+use native.Mathlib.Omega.{arith}
+use Rattle.sizes.specs.Ladder.{smallest, largest as largest-code, bytes, fanOut, frames as frames-of, largestAt, frameAddress}
+use Rattle.sizes.specs.Six.{six, mostCode}
+use Rattle.sizes.proofs.Six.{bytes-most, largest-most}
+use Rattle.model.specs.Ladder.{frames, top}
+use Rattle.model.specs.TreeStore.{largestFit}
+use Rattle.model.proofs.Ladder.{frames-pos}
+use Rattle.model.proofs.Seed.{largestFit-ok}
+use Rattle.model.proofs.Six.{six-tables}
+use Rattle.pages.specs.Limits.{mostFrames}
+use Rattle.pages.specs.Words.{fanOutOf, framesOf}
+
+pub fan-out-at : (level : ℕ) → 2 ≤ level → level ≤ mostCode → fanOut six level ≡ fanOutOf six level
+fan-out-at zero lo hi = absurd (omega arith)
+fan-out-at (suc zero) lo hi = absurd (omega arith)
+fan-out-at (suc (suc d)) lo hi = sym (six-tables .fan-out d (omega (arith, largest-most)))
+
+pub page : bytes six smallest ≡ 4096
+unfolding bytes
+page = refl
+
+bytes-at : (level : ℕ) → 1 ≤ level → level ≤ mostCode → bytes six level ≡ framesOf six level * 4096
+bytes-at zero lo hi = absurd (omega arith)
+bytes-at (suc d) lo hi = six-tables .in-bytes d (omega (arith, largest-most)) ∙ ap (λ (x : ℕ). frames six d * x) page
+
+frames-some : (level : ℕ) → 1 ≤ level → 1 ≤ framesOf six level
+frames-some zero lo = absurd (omega arith)
+frames-some (suc d) lo = frames-pos six d
+
+-- a block's bytes in pages are its frames
+pub frames-at : (level : ℕ) → 1 ≤ level → level ≤ mostCode → (bytes six level / 4096 ≡ framesOf six level) × (1 ≤ framesOf six level) × (framesOf six level ≤ mostFrames)
+frames-at level lo hi =
+    let e = bytes-at level lo hi in
+    (omega (arith, e), frames-some level lo, omega (arith, e, bytes-most level))
+
+-- no frame up to the end of the largest block is cut off
+frame-address : (f : ℕ) → f ≤ mostFrames → frameAddress six f ≡ f * bytes six smallest
+unfolding frameAddress frames-of fanOut largest-code
+frame-address f h = ap (λ (x : ℕ). x * bytes six smallest) (omega arith)
+
+pub largest-fit-at : (a e : ℕ) → a < e → e ≤ mostFrames
+    → (largestAt six (frameAddress six a) (frameAddress six e) ≡ suc (largestFit six (top six) a e)) × (a + framesOf six (suc (largestFit six (top six) a e)) ≤ e)
+largest-fit-at a e l h = (
+  ap₂ (λ (x y : ℕ). largestAt six x y) (frame-address a (omega arith)) (frame-address e h) ∙ six-tables .largest-at a e l,
+  largestFit-ok six (top six) a e l .2,
+)

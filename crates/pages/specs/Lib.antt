@@ -1,0 +1,10 @@
+pub mod Limits
+pub mod Words
+pub mod Nodes
+pub mod Room
+pub mod View
+pub mod Regions
+pub mod inner
+pub mod Sound
+pub mod Laws
+pub mod Cases

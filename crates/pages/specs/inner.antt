@@ -1,0 +1,4 @@
+pub mod Blocks
+pub mod Check
+pub mod RegionTest
+pub mod Asks
