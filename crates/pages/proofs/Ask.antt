@@ -8,13 +8,14 @@ use native.Mathlib.Omega.{arith}
 use lib.Dec.{ltb}
 use lib.ListN.{length, set}
 use borrow.Author.Tests.{lt-ltb, le-ltb, eq-eqb, ne-eqb}
+use Rattle.sizes.specs.Ladder.{code}
 use Rattle.sizes.specs.Six.{six}
 use Rattle.model.proofs.Change.{child-lt}
 use Rattle.model.proofs.Ladder.{frames-pos}
 use Rattle.model.specs.Ladder.{fan, frames}
 use Rattle.pages.specs.Nodes.{Words, childrenAll, childrenMax, handIf, handW, mapRun, markW, mergeIf, mergeW, openIf, openW, openWith, refreshW, storeW, withMarks}
 use Rattle.pages.specs.Room.{openingsW}
-use Rattle.pages.specs.Words.{fanOutOf, firstChild, linkOf, pack, word}
+use Rattle.pages.specs.Words.{fanOutOf, firstChild, linkOf, pack, run, word}
 use Rattle.pages.specs.inner.Asks.{OpenAsk, RunAsk, StoreAsk, words}
 use Rattle.pages.specs.inner.Blocks.{Child, Readable}
 use Rattle.pages.proofs.Max.{run-fits}
@@ -153,7 +154,7 @@ module _ (d d' : ℕ) (p : List ℕ) (u q b : ℕ) (a : StoreAsk (suc (suc d)) (
     room = omega (arith, need, a .room, open-words six d (words p u) q, o .step .len);
   }
 
-  pub child-open-ask : OpenAsk (suc (suc d)) p u q
+  child-open-ask : OpenAsk (suc (suc d)) p u q
   child-open-ask = record {
     lo = omega arith;
     hi = a .hi;
@@ -164,7 +165,7 @@ module _ (d d' : ℕ) (p : List ℕ) (u q b : ℕ) (a : StoreAsk (suc (suc d)) (
   }
 
   -- after the child's store the node is as it was
-  pub child-run-ask : RunAsk (suc (suc d)) (storeW six d d' (openW six d (words p u) q) (firstChild (openW six d (words p u) q .pool) q + b / frames six d) (b % frames six d) .pool) q
+  child-run-ask : RunAsk (suc (suc d)) (storeW six d d' (openW six d (words p u) q) (firstChild (openW six d (words p u) q .pool) q + b / frames six d) (b % frames six d) .pool) q
   child-run-ask =
       let O = openW six d (words p u) q in
       let y = firstChild (O .pool) q + b / frames six d in
@@ -174,7 +175,7 @@ module _ (d d' : ℕ) (p : List ℕ) (u q b : ℕ) (a : StoreAsk (suc (suc d)) (
       let own = child-own six d (O .pool) (R .pool) (O .used) (R .used) q y gq child (r .step) in
       record { lo = omega arith; hi = a .hi; at = omega (arith, gq .at, gq .fit, r .step .len); run = omega (arith, ap linkOf own, run-fits six d (O .pool) (O .used) q (o .k) gq (o .link), r .step .len) }
 
-  pub child-store : storeW six (suc d) d' (words p u) q b
+  child-store : storeW six (suc d) d' (words p u) q b
       ≡ words (mergeW six d (storeW six d d' (openW six d (words p u) q) (firstChild (openW six d (words p u) q .pool) q + b / frames six d) (b % frames six d) .pool) q)
       (storeW six d d' (openW six d (words p u) q) (firstChild (openW six d (words p u) q .pool) q + b / frames six d) (b % frames six d) .used)
   unfolding storeW
@@ -193,7 +194,7 @@ open-ask (suc zero) code p u q b a l = absurd (omega (arith, a .lo))
 open-ask (suc (suc d)) zero p u q b a l = absurd (omega (arith, a .lo))
 open-ask (suc (suc d)) (suc d') p u q b a l = child-open-ask d d' p u q b a l
 
-pub store-down : (level code : ℕ) (p : List ℕ) (u q b : ℕ) → StoreAsk level code p u q b → code < level
+store-down : (level code : ℕ) (p : List ℕ) (u q b : ℕ) → StoreAsk level code p u q b → code < level
     → Down level code p u q b (openW six (pred (pred level)) (words p u) q .pool) (openW six (pred (pred level)) (words p u) q .used) (pred level)
     (firstChild (openW six (pred (pred level)) (words p u) q .pool) q + b / frames six (pred (pred level))) (b % frames six (pred (pred level)))
 store-down zero code p u q b a l = absurd (omega arith)

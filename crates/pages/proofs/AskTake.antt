@@ -141,7 +141,7 @@ pub record TakeDown (level code : ℕ) (p : List ℕ) (u q : ℕ) (p₂ : List �
   pub same : takeW six (pred level) (pred code) (words p u) q
       ≡ (let r = takeW six (pred level') (pred code) (words p₂ u₁) y in taken (words (refreshW six (pred (pred level)) (r .words .pool) q) (r .words .used)) (i * size + r .base) (r .probes + i + 1))
 
-pub take-down : (level code : ℕ) (p : List ℕ) (u q : ℕ) → TakeAsk level code p u q → code < level
+take-down : (level code : ℕ) (p : List ℕ) (u q : ℕ) → TakeAsk level code p u q → code < level
     → TakeDown level code p u q (handed six (pred (pred level)) (words p u) q) (openW six (pred (pred level)) (words p u) q .used) (pred level)
     (firstChild (handed six (pred (pred level)) (words p u) q) q + childrenFirst code (handed six (pred (pred level)) (words p u) q) (firstChild (handed six (pred (pred level)) (words p u) q) q) (fanOutOf six level))
     (childrenFirst code (handed six (pred (pred level)) (words p u) q) (firstChild (handed six (pred (pred level)) (words p u) q) q) (fanOutOf six level)) (frames six (pred (pred level)))

@@ -1,4 +1,4 @@
--- What a pool of words is, read as a tree of blocks from a node on: the blocks seen, sums over them, and the local rules. `fan` is any ladder. Assumes nothing.
+-- Laws of the blocks that are seen from a node on, of sums over them, and of their rules. `fan` is any ladder. Assumes nothing.
 use mathlib.Core.List.{List}
 use mathlib.Core.Logic.{_⊎_, inl, inr, _≢_}
 use mathlib.Core.Path.{_≡_, refl, sym, ap, _∙_, subst, fun-ext}
@@ -11,9 +11,7 @@ use Rattle.pages.specs.Words.{levelOf, linkOf, word}
 use Rattle.pages.specs.inner.Blocks.{In, Ok, OkBlock, OkLink, childIn, childMet, delta, headMet, met, ofBlock, size, sumOver, total}
 use Rattle.pages.proofs.Sums.{sum-add, sum-find, sum-ge, sum-swap, sum-zero}
 
--- ---- words
-
--- ---- 1 where y is x, else 0
+-- ---- delta
 
 pub delta-same : (y x : ℕ) → y ≡ x → delta y x ≡ 1
 unfolding delta
@@ -27,7 +25,7 @@ pub delta-eq : (y x : ℕ) → 1 ≤ delta y x → y ≡ x
 delta-eq y x h = elim (ℕ-discrete y x) [ yes e ↦ e | no e ↦ absurd (omega (arith, delta-other y x e)) ]
 
 -- among the x of a run, one is y if y is in the run, and none otherwise
-pub sum-delta-out : (a n y : ℕ) → y < a → sumOver a n (λ x. delta y x) ≡ 0
+sum-delta-out : (a n y : ℕ) → y < a → sumOver a n (λ x. delta y x) ≡ 0
 sum-delta-out a n y h = sum-zero a n (λ x. delta y x) (λ x r. delta-other y x (omega arith))
 
 pub sum-delta : (a n y : ℕ) → In a n y → sumOver a n (λ x. delta y x) ≡ 1
@@ -85,7 +83,7 @@ module _ (fan : ℕ → ℕ) where
   total-sum p a m g zero q = sum-zero a m (λ x. 0) (λ x r. refl)
   total-sum p a m g (suc l) q = ofBlock-sum a m g (fan (suc l)) (λ x. total fan p (g x) l) (linkOf (word p q)) ∙ ap (λ (f : ℕ → ℕ). ofBlock (λ L j. sumOver a m (λ x. g x L j)) (fan (suc l)) f (linkOf (word p q))) (fun-ext (λ y. total-sum p a m g l y))
 
-  pub total-add : (p : List ℕ) (g h : ℕ → ℕ → ℕ) (l q : ℕ) → total fan p (λ L j. g L j + h L j) l q ≡ total fan p g l q + total fan p h l q
+  total-add : (p : List ℕ) (g h : ℕ → ℕ → ℕ) (l q : ℕ) → total fan p (λ L j. g L j + h L j) l q ≡ total fan p g l q + total fan p h l q
   unfolding total
   total-add p g h zero q = refl
   total-add p g h (suc l) q = ap (λ (f : ℕ → ℕ). ofBlock (λ L j. g L j + h L j) (fan (suc l)) f (linkOf (word p q))) (fun-ext (λ y. total-add p g h l y)) ∙ ofBlock-add g h (fan (suc l)) (total fan p g l) (total fan p h l) (linkOf (word p q))
@@ -99,7 +97,7 @@ module _ (fan : ℕ → ℕ) where
     here : Sees p m r m r
     down : {l q : ℕ} (k y : ℕ) → linkOf (word p q) ≡ suc k → In (suc (suc k)) (fan (suc l)) y → Sees p m r l y → Sees p m r (suc l) q
 
-  pub sees-total : {p : List ℕ} {m r l q : ℕ} (g : ℕ → ℕ → ℕ) → Sees p m r l q → total fan p g m r ≤ total fan p g l q
+  sees-total : {p : List ℕ} {m r l q : ℕ} (g : ℕ → ℕ → ℕ) → Sees p m r l q → total fan p g m r ≤ total fan p g l q
   sees-total g here = omega arith
   sees-total {p} {m} {r} g (down {l = l} {q = q} k y e i s) = omega (arith, total-open p g l q k e, sees-total g s, sum-ge (suc (suc k)) (fan (suc l)) (total fan p g l) y i)
 

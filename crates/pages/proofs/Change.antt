@@ -1,4 +1,4 @@
--- The other two changes: a node's max and token are set anew, which leaves the blocks as they are; and a block is given up. Assumes nothing.
+-- Max and token of nodes are set anew: that leaves the blocks as they are. Assumes nothing.
 use mathlib.Core.List.{List}
 use mathlib.Core.Logic.{inl, inr}
 use mathlib.Core.Path.{_≡_, refl, ap₂, _∙_, fun-ext}
@@ -36,5 +36,3 @@ module _ (fan : ℕ → ℕ) where
               children = λ y i. ok-relabel Ord p p′ used h l y (λ x g. hd x (omega (arith, t x, sum-ge (suc (suc (ke .0))) (fan (suc l)) (headMet fan p x l) y i))) (b .children y i);
             })
       ]
-
--- ---- a block is given up: p is p′ with q opened at L

@@ -1,4 +1,4 @@
--- What the walk and the sweep tell of a pool. Assumes nothing.
+-- Where the walk's count comes out and the sweep goes through, each place in use is met exactly once. Assumes nothing.
 use mathlib.Core.Bool.{Bool, true, false, _&&_}
 use mathlib.Core.List.{List}
 use mathlib.Core.Logic.{_⊎_, inl, inr}
@@ -24,7 +24,7 @@ and-intro {a} {b} e f = ap₂ _&&_ e f
 
 module _ (fan : ℕ → ℕ) (p : List ℕ) where
   -- ---- the sum of met over all places is the size
-  pub sum-childIn : (used L n : ℕ) → L + n < used → sumOver 0 used (λ x. delta L x + childIn x L n) ≡ suc n
+  sum-childIn : (used L n : ℕ) → L + n < used → sumOver 0 used (λ x. delta L x + childIn x L n) ≡ suc n
   unfolding childIn
   sum-childIn used L n h =
       sum-add 0 used (λ x. delta L x) (λ x. sumOver (suc L) n (λ y. delta y x))
@@ -46,17 +46,17 @@ module _ (fan : ℕ → ℕ) (p : List ℕ) where
     pub m : ℕ
     pub sees : Sees fan p m x l q
 
-  pub head-seen : (x l q : ℕ) → 1 ≤ headMet fan p x l q → IsHead x l q
+  head-seen : (x l q : ℕ) → 1 ≤ headMet fan p x l q → IsHead x l q
   head-seen x l q h =
       let f = total-find fan p (λ L n. delta L x) l q h in
       record { m = f .m; r = f .r; sees = f .sees; link = f .link ∙ delta-eq (suc (f .k)) x (f .weighs); low = omega (arith, delta-eq (suc (f .k)) x (f .weighs)) }
 
-  pub child-seen : (x l q : ℕ) → 1 ≤ childMet fan p x l q → IsNode x l q
+  child-seen : (x l q : ℕ) → 1 ≤ childMet fan p x l q → IsNode x l q
   child-seen x l q h =
       let f = total-find fan p (λ L n. childIn x L n) l q h in
       record { m = f .m; sees = sees-snoc fan (f .k) x (f .link) (childIn-of x (suc (f .k)) (fan (suc (f .m))) (f .weighs)) (f .sees) }
 
-  pub met-cases : (x l q : ℕ) → 1 ≤ met fan p x l q → IsHead x l q ⊎ IsNode x l q
+  met-cases : (x l q : ℕ) → 1 ≤ met fan p x l q → IsHead x l q ⊎ IsNode x l q
   met-cases x l q h = elim (decLe 1 (headMet fan p x l q)) [
     | yes a ↦ inl (head-seen x l q a)
     | no a ↦ inr (child-seen x l q (omega (arith, met-split fan p x l q)))
@@ -69,7 +69,6 @@ module _ (fan : ℕ → ℕ) (p : List ℕ) where
     | yes d ↦ omega (arith, sees-block fan (λ L n. delta L x + childIn x L n) k s e, delta-same (suc k) x d)
     | no d ↦ omega (arith, sees-block fan (λ L n. delta L x + childIn x L n) k s e, childIn-in x (suc k) (fan (suc m)) (omega arith))
   ]
-  -- ---- what the walk tells
 
 module _ (fan : ℕ → ℕ) (Ord : ℕ → ℕ → Type 0) (p : List ℕ) where
   -- two weights that agree on every block that fits give one sum
@@ -103,7 +102,7 @@ module _ (fan : ℕ → ℕ) (p : List ℕ) where
       let b = ok-open fan (By ltb) p used m r k (sees-ok fan (By ltb) used o s) e in
       omega (arith, ltb-true r (suc k) (b .past), b .head)
 
-  -- ---- the scan: where all places before s occur, and a tile may start at s, the tile is a block that is seen
+  -- ---- the sweep: where all places before s occur, and a tile may start at s, the tile is a block that is seen
   pub record Start (s l q : ℕ) : Type 0 where
     pub m : ℕ
     pub sees : Sees fan p (suc m) (word p s) l q
@@ -155,4 +154,3 @@ module _ (fan : ℕ → ℕ) (p : List ℕ) where
               ])
         ]
     cover (suc k) s (suc t) s1 su h all = cover k (suc s) t (omega arith) (omega arith) h (λ x x1 xs. all x x1 (omega arith))
-    -- ---- THE CHECK IS ENOUGH

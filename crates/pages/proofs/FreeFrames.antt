@@ -42,7 +42,7 @@ unfolding sum tab sumOver
 sum-tab g f a zero = refl
 sum-tab g f a (suc n) = ap (λ (t : ℕ). g (f a) + t) (sum-tab g f (suc a) n)
 
-pub tokens-sum : (p : List ℕ) (a n : ℕ) → a + n ≤ length p → tokensIn p a n ≡ sumOver a n (λ x. tokenOf (word p x))
+tokens-sum : (p : List ℕ) (a n : ℕ) → a + n ≤ length p → tokensIn p a n ≡ sumOver a n (λ x. tokenOf (word p x))
 unfolding tokensIn
 tokens-sum p a n h = ap (sum tokenOf) (run-tab p a n h) ∙ sum-tab tokenOf (word p) a n
 
@@ -108,7 +108,7 @@ token-bit v = go (hasToken v) refl
 
 module _ (L : Ladder) where
   -- no more frames are free than there are
-  pub frames-most : (d : ℕ) (t : Tree d) → SoundTree L d t → freeFrames L d t ≤ frames L d
+  frames-most : (d : ℕ) (t : Tree d) → SoundTree L d t → freeFrames L d t ≤ frames L d
   frames-most d t s = omega (arith, freeFrames-count L d t s, count-le (free L d t) (frames L d))
 
   -- where nothing is offered no frame is free
@@ -139,7 +139,7 @@ module _ (L : Ladder) where
 
     -- THE FREE FRAMES ARE THE NODE'S OWN AND THOSE OF THE BLOCKS
     module _ (used : ℕ) (fit : used ≤ length p) where
-      pub view-frames : (d q : ℕ) → Ok (fanOutOf L) (By ltb) p used (suc d) q → SoundTree L d (view L d (word p) q) → freeFrames L d (view L d (word p) q) ≡ tokenOf (word p q) * frames L d + below d q
+      view-frames : (d q : ℕ) → Ok (fanOutOf L) (By ltb) p used (suc d) q → SoundTree L d (view L d (word p) q) → freeFrames L d (view L d (word p) q) ≡ tokenOf (word p q) * frames L d + below d q
       unfolding freeFrames view frames sum
       view-frames zero q o s = elim (zeroOr (linkOf (word p q))) [
         | inl z ↦ omega (arith, token-bit (word p q), total-shut (fanOutOf L) p (λ s n. weight s) 1 q z)
@@ -203,7 +203,7 @@ module _ (fan : ℕ → ℕ) (p : List ℕ) (top used : ℕ) where
 -- in a pool whose blocks are in order
 module _ (fan : ℕ → ℕ) (p : List ℕ) (top used : ℕ) (o : Ok fan (By ltb) p used top 0) (once : Once fan p top used) where
   -- the sum over the blocks is the sum over the places, of those that are headers
-  pub left-all : 1 ≤ used → (f : ℕ → ℕ) → left fan p top used f 1 ≡ total fan p (λ s n. f s) top 0
+  left-all : 1 ≤ used → (f : ℕ → ℕ) → left fan p top used f 1 ≡ total fan p (λ s n. f s) top 0
   left-all u1 f =
       let F : ℕ → ℕ = λ x. headMet fan p x top 0 * f x in
       let none : headMet fan p 0 top 0 ≡ 0 =
@@ -219,7 +219,7 @@ module _ (fan : ℕ → ℕ) (p : List ℕ) (top used : ℕ) (o : Ok fan (By ltb
       ∙ total-cong fan (By ltb) p used (λ s n. sumOver 0 used (λ x. delta s x * f x)) (λ s n. f s) (λ s n h. sum-pick 0 used s f (omega arith)) top 0 o in
       omega (arith, all, ap (λ (m : ℕ). sumOver 0 m F) e, first, sum-front 0 0 (used - 1) F (λ x i. absurd (omega arith)))
 
-  pub turn : (f : ℕ → ℕ) (s : ℕ) → 1 ≤ s → s < used → Past fan p top used s → Turn fan p top used f s
+  turn : (f : ℕ → ℕ) (s : ℕ) → 1 ≤ s → s < used → Past fan p top used s → Turn fan p top used f s
   turn f s s1 su ends = record {
     before = omega (arith, head-small fan p used o (b .sees) (b .link), at, ap (word p) at);
     low = omega (arith, level, ok .deep);

@@ -54,25 +54,21 @@ not-t : (a : Bool) → not a ≡ true → a ≡ false
 not-t true e = absurd (false≢true e)
 not-t false e = refl
 
-pub rule-cases : (l v m : ℕ) (a : Bool) → marksPass l v m a ≡ true → Bare v l m a ⊎ Token v l m
+rule-cases : (l v m : ℕ) (a : Bool) → marksPass l v m a ≡ true → Bare v l m a ⊎ Token v l m
 rule-cases l v m a h = elim (ℕ-discrete (tokenOf v) 0) [
   | yes e ↦ let b = and-true (sym (mark-bare l v m a e) ∙ h) in inl (record { off = ne-eqb (v / 8 % 2) 1 (λ z. omega arith); max = eqb-true (maxOf v) m (b .0); some = not-t a (b .1) })
   | no e ↦ let b = and-true (sym (mark-token l v m a e) ∙ h) in inr (record { on = eq-eqb (v / 8 % 2) 1 (omega arith); max = eqb-true (maxOf v) l (b .0); none = eqb-true m 0 (b .1) })
 ]
 
-pub rule-bare : (l v m : ℕ) (a : Bool) → hasToken v ≡ false → maxOf v ≡ m → a ≡ false → marksPass l v m a ≡ true
+rule-bare : (l v m : ℕ) (a : Bool) → hasToken v ≡ false → maxOf v ≡ m → a ≡ false → marksPass l v m a ≡ true
 rule-bare l v m a t e f = mark-bare l v m a (let ne = eqb-false (v / 8 % 2) 1 t in omega (arith, ne)) ∙ and-intro (eq-eqb (maxOf v) m e) (ap not f)
 
-pub rule-token : (l v m : ℕ) (a : Bool) → hasToken v ≡ true → maxOf v ≡ l → m ≡ 0 → marksPass l v m a ≡ true
+rule-token : (l v m : ℕ) (a : Bool) → hasToken v ≡ true → maxOf v ≡ l → m ≡ 0 → marksPass l v m a ≡ true
 rule-token l v m a t e f = mark-token l v m a (λ z. omega (arith, eqb-true (v / 8 % 2) 1 t)) ∙ and-intro (eq-eqb (maxOf v) l e) (eq-eqb m 0 f)
 
 module _ (L : Ladder) where
-  pub marked-own : (d : ℕ) (p : List ℕ) (q : ℕ) → Marked L d p q → Rule L d p q
-  marked-own zero p q m = m
-  marked-own (suc d) p q m = m .0
-
   -- a node that offers nothing has no token
-  pub quiet-tok : (d : ℕ) (t : Tree d) → largest d t ≡ 0 → token d t ≡ false
+  quiet-tok : (d : ℕ) (t : Tree d) → largest d t ≡ 0 → token d t ≡ false
   unfolding largest
   quiet-tok zero true e = absurd (omega arith)
   quiet-tok zero false e = refl
@@ -189,7 +185,7 @@ module _ (L : Ladder) where
           let r = node-sound d p u q (ke .0) g (ke .1) (λ y c. ih y c .1) (λ y c. ih y c .0) (m .0) in
           rw (ke .1) ((r .0, λ y c. ih y c .0), r .1)
 
-  pub sound-marked : (d : ℕ) (p : List ℕ) (u q : ℕ) → Readable L d p u q → Maxed L d p q → SoundTree L d (view L d (word p) q) → Marked L d p q
+  sound-marked : (d : ℕ) (p : List ℕ) (u q : ℕ) → Readable L d p u q → Maxed L d p q → SoundTree L d (view L d (word p) q) → Marked L d p q
   unfolding largest view maximum ks
   sound-marked zero p u q g m s = shut-rule 0 p q (leaf-shut p u q g) (leaf-rule p q m)
   sound-marked (suc d) p u q g m s = go (linkOf (word p q)) refl (m .0) s (λ y c. sound-marked d p u y (readable-child L d p u q y g c) (m .1 y c))
@@ -208,7 +204,7 @@ module _ (L : Ladder) where
             ih y c (subst (SoundTree L d) (ks-child d p u q k g e (y - suc (suc k)) (omega (arith, c .link, c .at)) ∙ ap (view L d (word p)) z) (s .children (y - suc (suc k)))),
       )
 
-  -- ---- the pool as a whole: the root of depth d at place 0
+  -- ---- the pool as a whole: the root of level d + 1 at place 0
 
   pub shape-readable : (d : ℕ) (p : List ℕ) (u : ℕ) → Shape (fanOutOf L) (suc d) p u → Readable L d p u 0
   shape-readable d p u s = record { at = s .low; fit = s .high; ok = s .rules; sep = sep-root (fanOutOf L) (By ltb) p (suc d) u (s .rules) (s .once) }
@@ -230,7 +226,7 @@ module _ (L : Ladder) where
         ];
   }
 
-  -- (2) the tree is sound, and every node's max is the largest block of its tree
+  -- the tree is sound, and every node's max is the largest block of its tree
   pub soundW-tree : (d : ℕ) (p : List ℕ) (u : ℕ) → SoundW L d p u → Maxed L d p 0 × SoundTree L d (view L d (word p) 0)
   soundW-tree d p u s = marked-sound d p u 0 (shape-readable d p u (s .shape)) (s .marks)
 
@@ -238,7 +234,7 @@ module _ (L : Ladder) where
   pub soundW-largest : (d : ℕ) (p : List ℕ) (u : ℕ) → SoundW L d p u → maxOf (word p 0) ≡ largest d (view L d (word p) 0)
   soundW-largest d p u s = maxed-own L d p 0 (soundW-tree d p u s .0)
 
-  -- (3) what a call leaves: sound words, the tree's new tree, the count, and no word behind the used ones
+  -- what a call leaves: sound words, the tree's new tree, the count, and no word behind the used ones
   pub record Left (d : ℕ) (p : List ℕ) (u : ℕ) (o : Words) (t : Tree d) (n : ℕ) : Type 0 where
     pub sound : SoundW L d (o .pool) (o .used)
     pub tree : view L d (word (o .pool)) 0 ≡ t
@@ -288,4 +284,3 @@ module _ (L : Ladder) where
         left-of d p u (takeW L d d' (record { pool = p; used = u }) 0 .words) (remove L d d' T (pick L d d' T)) (openingsW L d d' p 0 (pick L d d' T)) s (r .step) room (r .words) (r .tree) (r .maxed)
             (remove-done L d d' T (pick L d d' T) (t .1) pl₀ (q .whole) .1),
       )
-  -- ---- the check's rules are these, with where tokens may stand

@@ -1,7 +1,7 @@
 -- The laws of pools, gathered. Assumes nothing.
 use mathlib.Core.Bool.{false, _&&_}
 use mathlib.Core.List.{List}
-use mathlib.Core.Path.{_≡_, sym, ap, _∙_}
+use mathlib.Core.Path.{_≡_, sym, ap, _∙_, subst}
 use Prim.Native.Nat.{ℕ, suc, _+_, _-_, _≤_, _<_}
 use native.Mathlib.Omega.{arith}
 use lib.Dec.{leb, ltb}
@@ -32,7 +32,7 @@ use Rattle.pages.proofs.Seeding.{Seeded, openingsW-is, seedW-done, used
 use Rattle.pages.proofs.Step.{Step, new}
 use Rattle.pages.proofs.Store.{Stored, storeW-done}
 use Rattle.pages.proofs.Take.{Took, takeW-done}
-use Rattle.pages.proofs.Used.{shape-used}
+use Rattle.pages.proofs.Used.{shape-used, used-store, used-take}
 
 module _ (L : Ladder) where
   new-within : (u u' x : ℕ) → u ≤ u' → new u u' x ≡ bit (within u (u' - u) x)
@@ -97,6 +97,8 @@ module _ (L : Ladder) where
     pool-laws = record {
       root = root;
       used = sym (shape-used L (top L) p u (s .shape));
+      stored-words = λ d' b h. used-store L (top L) d' p u b small (s .shape) h;
+      taken-words = λ d' l h. let e = root .picked d' l h in subst (λ (b : ℕ). suc (treeWords (top L) (remove L (top L) d' (view L (top L) (word p) 0) b)) ≡ u + openingsW L (top L) d' p 0 b) (sym e) (used-take L (top L) d' p u small s l h);
       stored = λ d' b h. storeW-sound L (top L) d' p u b small s (h .block) (h .held) (h .room) .sound;
       taken = λ d' o. takeW-sound L (top L) d' p u small s (o .deep) (o .offers) (omega (arith, o .room, ap (openingsW L (top L) d' p 0) (root .picked d' (o .deep) (o .offers)))) .2 .sound;
       seeded-words = seed-room;

@@ -46,7 +46,7 @@ module _ (f : ℕ → ℕ) where
   mapRun-none (x ∷ p) zero = refl
 
   -- one word more
-  pub mapRun-more : (p : List ℕ) (a n : ℕ) → a + n < length p → mapRun f p a (n + 1) ≡ set (mapRun f p a n) (a + n) (f (word p (a + n)))
+  mapRun-more : (p : List ℕ) (a n : ℕ) → a + n < length p → mapRun f p a (n + 1) ≡ set (mapRun f p a n) (a + n) (f (word p (a + n)))
   mapRun-more p a n h = ext-getD 0 (mapRun f p a (n + 1)) R (length-mapRun p a (n + 1) ∙ sym (length-set (mapRun f p a n) (a + n) v ∙ length-mapRun p a n)) at
     where
       v : ℕ

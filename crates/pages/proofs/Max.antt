@@ -34,7 +34,7 @@ max-tab g f h a (suc n) e = ap₂ max (e a (omega arith) (omega arith)) (max-tab
 abbrev nextFirst : ℕ → ℕ → ℕ → ℕ
 nextFirst c v r = cond (leb c v) 0 (suc r)
 
-pub first-tab : {A : Type 0} (c : ℕ) (g : A → ℕ) (f : ℕ → A) (h : ℕ → ℕ) (a n : ℕ) → ((j : ℕ) → a ≤ j → j < a + n → g (f j) ≡ maxOf (h j)) → first (λ x. leb c (g x)) (tab f a n) ≡ first (λ x. leb c (maxOf x)) (tab h a n)
+first-tab : {A : Type 0} (c : ℕ) (g : A → ℕ) (f : ℕ → A) (h : ℕ → ℕ) (a n : ℕ) → ((j : ℕ) → a ≤ j → j < a + n → g (f j) ≡ maxOf (h j)) → first (λ x. leb c (g x)) (tab f a n) ≡ first (λ x. leb c (maxOf x)) (tab h a n)
 unfolding first tab
 first-tab c g f h a zero e = refl
 first-tab c g f h a (suc n) e = ap₂ (nextFirst c) (e a (omega arith) (omega arith)) (first-tab c g f h (suc a) n (λ j lo hi. e j (omega arith) (omega arith)))
@@ -62,7 +62,7 @@ module _ (L : Ladder) where
   maxed-own (suc d) p q m = m .0
 
   -- a child by the link of another pool
-  pub child-by : {p p' : List ℕ} {d q y : ℕ} → linkOf (word p' q) ≡ linkOf (word p q) → Child (fanOutOf L) p' d q y → Child (fanOutOf L) p d q y
+  child-by : {p p' : List ℕ} {d q y : ℕ} → linkOf (word p' q) ≡ linkOf (word p q) → Child (fanOutOf L) p' d q y → Child (fanOutOf L) p d q y
   child-by e c = record { k = c .k; link = sym e ∙ c .link; at = c .at }
 
   pub maxed-agree : (d : ℕ) (p p' : List ℕ) (q : ℕ) → Agree (fanOutOf L) p p' (suc d) q → Maxed L d p q → Maxed L d p' q
@@ -78,7 +78,7 @@ module _ (L : Ladder) where
   maxed-mark zero p p' q e a h m = h
   maxed-mark (suc d) p p' q e a h m = (h, λ y c. let c₀ : Child (fanOutOf L) p (suc d) q y = child-by e c in maxed-agree d p p' y (a y c₀) (m .1 y c₀))
 
-  pub maxed-new : (d : ℕ) (p : List ℕ) (q : ℕ) → suc d < 8 → word p q ≡ 16 * suc d → Maxed L d p q
+  maxed-new : (d : ℕ) (p : List ℕ) (q : ℕ) → suc d < 8 → word p q ≡ 16 * suc d → Maxed L d p q
   maxed-new zero p q h e = omega (arith, ap (largest 0) (view-new L 0 (word p) q h e), largest-empty 0)
   maxed-new (suc d) p q h e = (omega (arith, ap (largest (suc d)) (view-new L (suc d) (word p) q h e), largest-empty (suc d)), λ y c. absurd (omega (arith, c .link)))
 
@@ -91,7 +91,7 @@ module _ (L : Ladder) where
     run-child y lo hi = record { k = k; link = link; at = omega arith }
 
     -- the largest of the children's trees is the largest of their maxima
-    pub children-largest : ChildrenMaxed d p q → maximum (largest d) (tab (view L d (word p)) (firstChild p q) (fan L (suc d))) ≡ childrenMax p (firstChild p q) (fan L (suc d))
+    children-largest : ChildrenMaxed d p q → maximum (largest d) (tab (view L d (word p)) (firstChild p q) (fan L (suc d))) ≡ childrenMax p (firstChild p q) (fan L (suc d))
     unfolding childrenMax
     children-largest m = max-tab (largest d) (view L d (word p)) (word p) (firstChild p q) (fan L (suc d)) (λ j lo hi. sym (maxed-own d p j (m j (run-child j lo hi)))) ∙ ap (maximum maxOf) (sym (run-tab p (firstChild p q) (fan L (suc d)) (run-fits d p u q k g link)))
 
@@ -104,8 +104,6 @@ module _ (L : Ladder) where
     children-all = all-view L d (word p) (firstChild p q) (fan L (suc d)) ∙ ap (all hasToken) (sym (run-tab p (firstChild p q) (fan L (suc d)) (run-fits d p u q k g link)))
 
     -- ---- max becomes the children's
-    refresh-m : ℕ
-    refresh-m = childrenMax p (firstChild p q) (fan L (suc d))
 
     refresh16 : childrenMax p (firstChild p q) (fan L (suc d)) < 16
     refresh16 = omega (arith, childrenMax-small p (firstChild p q) (fan L (suc d)))

@@ -27,8 +27,6 @@ use Rattle.pages.proofs.Store.{need-shut, need-top}
 use Rattle.pages.proofs.Take.{whole-token}
 use Rattle.pages.proofs.Tree.{token-view}
 
--- ---- what the functions ask for
-
 pub pick-here : (level code : ℕ) (p : List ℕ) (q : ℕ) → word p q / 8 % 2 ≡ 1 → pickW six (pred level) (pred code) p q ≡ 0
 unfolding pickW
 pick-here zero code p q e = refl
@@ -56,7 +54,7 @@ pick-look (suc (suc d)) (suc d') p q a t =
       k .lt,
     )
 
-pub pick-down : (level code : ℕ) (p : List ℕ) (q : ℕ) → PickAsk level code p q → (word p q / 8 % 2 ≡ 1 → ⊥) → code < level
+pick-down : (level code : ℕ) (p : List ℕ) (q : ℕ) → PickAsk level code p q → (word p q / 8 % 2 ≡ 1 → ⊥) → code < level
     → PickDown level code p q (firstChild p q) (fanOutOf six level) (childrenFirst code p (firstChild p q) (fanOutOf six level)) (frames six (pred (pred level))) (pred level) (firstChild p q + childrenFirst code p (firstChild p q) (fanOutOf six level))
 unfolding pickW
 pick-down zero code p q a t l = absurd (omega arith)
@@ -108,7 +106,7 @@ pub record NeedDown (level code : ℕ) (p : List ℕ) (q b level' y b' : ℕ) : 
   pub same : openingsW six (pred level) (pred code) p q b ≡ openingsW six (pred level') (pred code) p y b'
   pub low : y < length p
 
-pub need-down : (level code : ℕ) (p : List ℕ) (q b : ℕ) → NeedAsk level code p q b → code < level → (linkOf (word p q) ≡ 0 → ⊥)
+need-down : (level code : ℕ) (p : List ℕ) (q b : ℕ) → NeedAsk level code p q b → code < level → (linkOf (word p q) ≡ 0 → ⊥)
     → NeedDown level code p q b (pred level) (firstChild p q + b / frames six (pred (pred level))) (b % frames six (pred (pred level)))
 unfolding openingsW
 need-down zero code p q b a l ne = absurd (omega arith)

@@ -1,4 +1,4 @@
--- The other way: on a pool whose blocks are in order the walk and the sweep succeed. Assumes nothing.
+-- The other way: where each place in use is met exactly once, the count comes out and the sweep goes through. Assumes nothing.
 use mathlib.Core.Bool.{true, _&&_}
 use mathlib.Core.List.{List}
 use mathlib.Core.Logic.{inl, inr}
@@ -109,4 +109,3 @@ module _ (fan : ℕ → ℕ) (p : List ℕ) where
           | no e ↦ omega (arith, ends m r k sees link (omega arith))
         ])
         (λ x i. children x (omega arith))
-    -- ---- THE CHECK IS NEEDED

@@ -19,7 +19,7 @@ module _ (L : Ladder) (p : List ℕ) where
   below-trans u itself = u
   below-trans u (deeper k i v e h) = deeper k i (below-trans u v) e h
 
-  pub below-child : (l q b k i : ℕ) → linkOf (word p q) ≡ suc k → i < fanOutOf L (suc l) → Below L p (suc l) q b l (suc (suc k) + i) (b + i * framesOf L l)
+  below-child : (l q b k i : ℕ) → linkOf (word p q) ≡ suc k → i < fanOutOf L (suc l) → Below L p (suc l) q b l (suc (suc k) + i) (b + i * framesOf L l)
   below-child l q b k i e h = deeper k i itself e h
 
   -- the same by the child's place

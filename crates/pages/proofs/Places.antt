@@ -7,7 +7,7 @@ use native.Mathlib.Decide.{decLe, decLt, ℕ-discrete}
 use native.Mathlib.Omega.{arith}
 use Rattle.pages.specs.Words.{levelOf, linkOf, word}
 use Rattle.pages.specs.inner.Blocks.{Child, In, Ok, Once, Sep, childIn, delta, met, ofBlock, placesOf, sumOver, total}
-use Rattle.pages.proofs.Blocks.{Sees, delta-other, delta-same, down, here, ok-make, ok-open, ok-shut, total-open, total-shut, zeroOr}
+use Rattle.pages.proofs.Blocks.{delta-other, delta-same, ok-make, ok-open, ok-shut, total-open, total-shut, zeroOr}
 use Rattle.pages.proofs.Needed.{met-place}
 use Rattle.pages.proofs.Sums.{sum-add, sum-cong, sum-ge, sum-ge2}
 
@@ -33,15 +33,11 @@ module _ (fan : ℕ → ℕ) where
   pub sep-child : {p : List ℕ} {l q y : ℕ} → Child fan p l q y → Sep fan p (suc l) q → Sep fan p l y
   sep-child c s x = omega (arith, s x, places-child x c)
 
-  pub sep-sees : {p : List ℕ} {m r l q : ℕ} → Sees fan p m r l q → Sep fan p l q → Sep fan p m r
-  sep-sees here s = s
-  sep-sees (down k y e i r) s = sep-sees r (sep-child (record { k = k; link = e; at = i }) s)
-
   -- a child's places are neither the node's own, nor the header's, nor another child's
   pub apart-own : {p : List ℕ} {l q y : ℕ} → Child fan p l q y → Sep fan p (suc l) q → (x : ℕ) → 1 ≤ placesOf fan p x l y → x ≢ q
   apart-own {p} {l} {q} {y} c s x h e = omega (arith, s x, places-open p x l q (c .k) (c .link), delta-same q x (sym e), sum-ge (suc (suc (c .k))) (fan (suc l)) (λ z. placesOf fan p x l z) y (c .at))
 
-  pub apart-head : {p : List ℕ} {l q y : ℕ} → (c : Child fan p l q y) → Sep fan p (suc l) q → (x : ℕ) → 1 ≤ placesOf fan p x l y → x ≢ linkOf (word p q)
+  apart-head : {p : List ℕ} {l q y : ℕ} → (c : Child fan p l q y) → Sep fan p (suc l) q → (x : ℕ) → 1 ≤ placesOf fan p x l y → x ≢ linkOf (word p q)
   apart-head {p} {l} {q} {y} c s x h e = omega (arith, s x, places-open p x l q (c .k) (c .link), delta-same (suc (c .k)) x (sym (e ∙ c .link)), sum-ge (suc (suc (c .k))) (fan (suc l)) (λ z. placesOf fan p x l z) y (c .at))
 
   pub apart-child : {p : List ℕ} {l q y z : ℕ} → Child fan p l q y → Child fan p l q z → Sep fan p (suc l) q → y ≢ z → (x : ℕ) → 1 ≤ placesOf fan p x l y → 1 ≤ placesOf fan p x l z → ⊥
@@ -96,10 +92,7 @@ module _ (fan : ℕ → ℕ) where
   unfolding placesOf met
   frame-places x p p′ l q a = ap (λ (t : ℕ). delta q x + t) (frame-total (λ L n. delta L x + childIn x L n) p p′ l q a)
 
-  pub agree-sym : (p p′ : List ℕ) (l q : ℕ) → Agree p p′ l q → Agree p′ p l q
-  agree-sym p p′ l q a x h = sym (a x (omega (arith, frame-places x p p′ l q a)))
-
-  -- maxBelow used, the pools differ at places of the node at q alone
+  -- below used, the pools differ at places of the node at q alone
   abbrev pub Only : List ℕ → List ℕ → ℕ → ℕ → ℕ → Type 0
   Only p p′ used l q = (x : ℕ) → x < used → placesOf fan p x l q < 1 → word p x ≡ word p′ x
 

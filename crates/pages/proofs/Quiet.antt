@@ -60,7 +60,7 @@ module _ (p : List ℕ) (n : ℕ) where
   unfolding allBelow
   all-open v k e = ap (allBelow p n) e
 
-pub children-le : (p : List ℕ) (a n i : ℕ) → a + n ≤ length p → i < n → maxOf (word p (a + i)) ≤ childrenMax p a n
+children-le : (p : List ℕ) (a n i : ℕ) → a + n ≤ length p → i < n → maxOf (word p (a + i)) ≤ childrenMax p a n
 unfolding childrenMax
 children-le p a n i h l = omega (arith, ap (maximum maxOf) (run-tab p a n h), tab-le {A = ℕ} maxOf (word p) a n (a + i) (omega arith) (omega arith))
 
@@ -103,7 +103,7 @@ module _ (L : Ladder) (p : List ℕ) (used : ℕ) (s : Shape (fanOutOf L) (suc (
   pub node-pos : (l q b : ℕ) → Node L p l q b → 1 ≤ l
   node-pos l q b n = ok-pos l q (node-ok n)
 
-  pub node-fits : (l q b k : ℕ) → Node L p (suc l) q b → linkOf (word p q) ≡ suc k → suc (suc k) + fanOutOf L (suc l) ≤ length p
+  node-fits : (l q b k : ℕ) → Node L p (suc l) q b → linkOf (word p q) ≡ suc k → suc (suc k) + fanOutOf L (suc l) ≤ length p
   node-fits l q b k n e = omega (arith, ok-open (fanOutOf L) (By ltb) p used l q k (node-ok n) e .fits, s .high)
 
   module _ (rule : (l q b : ℕ) → Node L p l q b → RuleAt L p l q) where

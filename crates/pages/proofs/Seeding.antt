@@ -80,7 +80,7 @@ module _ (L : Ladder) where
                 ap (λ (x : Tree d). openings L d d' x (b % frames L d)) (tab-at (view L d (word p)) (suc (suc k)) (fan L (suc d)) (b / frames L d) (empty d) lt),
               ))
 
-  pub openingsAfterW-is : (d d' : ℕ) (p : List ℕ) (u q b : ℕ) → Readable L d p u q → b < frames L d → openingsAfterW L d d' p q b ≡ openingsAfter L d d' (view L d (word p) q) b
+  openingsAfterW-is : (d d' : ℕ) (p : List ℕ) (u q b : ℕ) → Readable L d p u q → b < frames L d → openingsAfterW L d d' p q b ≡ openingsAfter L d d' (view L d (word p) q) b
   unfolding openingsAfterW openingsAfter view
   openingsAfterW-is zero d' p u q b g h = refl
   openingsAfterW-is (suc d) d' p u q zero g h = openingsW-is (suc d) d' p u q 0 g h
@@ -108,7 +108,7 @@ module _ (L : Ladder) where
       go false v ih = rw (v, seedRestW, seedRest)
       go true v ih = rw (v, seedRestW, seedRest) (omega (arith, ih, openingsAfterW-is (top L) (largestFit L (top L) a e) p u 0 a g (omega (arith, ltb-true a e v))))
 
-  pub seedOpeningsW-is : (k : ℕ) (p : List ℕ) (u a e : ℕ) → Readable L (top L) p u 0 → e ≤ frames L (top L) → seedOpeningsW L k p a e ≡ seedOpenings L k (view L (top L) (word p) 0) a e
+  seedOpeningsW-is : (k : ℕ) (p : List ℕ) (u a e : ℕ) → Readable L (top L) p u 0 → e ≤ frames L (top L) → seedOpeningsW L k p a e ≡ seedOpenings L k (view L (top L) (word p) 0) a e
   unfolding seedOpeningsW seedOpenings
   seedOpeningsW-is zero p u a e g h = refl
   seedOpeningsW-is (suc k) p u a e g h = go (ltb a e) refl

@@ -32,14 +32,14 @@ pub new-low : (u u' x : ℕ) → x < u → new u u' x ≡ 0
 unfolding new
 new-low u u' x a = rw (lt-leb u x a)
 
-pub new-high : (u u' x : ℕ) → u' ≤ x → new u u' x ≡ 0
+new-high : (u u' x : ℕ) → u' ≤ x → new u u' x ≡ 0
 unfolding new
 new-high u u' x a = elim (decLe u x) [ yes b ↦ rw (le-leb u x b, le-ltb x u' a) | no b ↦ new-low u u' x (omega arith) ]
 
-pub new-none : (u x : ℕ) → new u u x ≡ 0
+new-none : (u x : ℕ) → new u u x ≡ 0
 new-none u x = elim (decLe u x) [ yes b ↦ new-high u u x b | no b ↦ new-low u u x (omega arith) ]
 
-pub new-trans : (u v t x : ℕ) → u ≤ v → v ≤ t → new u v x + new v t x ≡ new u t x
+new-trans : (u v t x : ℕ) → u ≤ v → v ≤ t → new u v x + new v t x ≡ new u t x
 new-trans u v t x a b = go (decLt x u) (decLt x v) (decLt x t)
   where
     go : Dec (x < u) → Dec (x < v) → Dec (x < t) → new u v x + new v t x ≡ new u t x
@@ -49,7 +49,7 @@ new-trans u v t x a b = go (decLt x u) (decLt x v) (decLt x t)
     go (no i) (no j) (no k) = omega (arith, new-high u v x (omega arith), new-high u t x (omega arith), new-high v t x (omega arith))
 
 -- two sums that differ in one summand
-pub sum-bump : (a n : ℕ) (f g : ℕ → ℕ) (y c : ℕ) → In a n y → g y ≡ f y + c → ((x : ℕ) → In a n x → x ≢ y → g x ≡ f x) → sumOver a n g ≡ sumOver a n f + c
+sum-bump : (a n : ℕ) (f g : ℕ → ℕ) (y c : ℕ) → In a n y → g y ≡ f y + c → ((x : ℕ) → In a n x → x ≢ y → g x ≡ f x) → sumOver a n g ≡ sumOver a n f + c
 unfolding sumOver
 sum-bump a zero f g y c i e h = absurd (omega arith)
 sum-bump a (suc n) f g y c i e h = elim (ℕ-discrete a y) [
@@ -59,7 +59,7 @@ sum-bump a (suc n) f g y c i e h = elim (ℕ-discrete a y) [
 
 module _ (L : Ladder) where
   -- the rules stay as more words are used
-  pub ok-more : (p : List ℕ) (u u' l q : ℕ) → u ≤ u' → Ok (fanOutOf L) (By ltb) p u l q → Ok (fanOutOf L) (By ltb) p u' l q
+  ok-more : (p : List ℕ) (u u' l q : ℕ) → u ≤ u' → Ok (fanOutOf L) (By ltb) p u l q → Ok (fanOutOf L) (By ltb) p u' l q
   unfolding Ok
   ok-more p u u' zero q h o = o
   ok-more p u u' (suc l) q h o = elim (zeroOr (linkOf (word p q))) [
@@ -69,7 +69,7 @@ module _ (L : Ladder) where
         ok-make (fanOutOf L) (By ltb) p u' l q (ke .0) (o .0) (ke .1) (record { deep = b .deep; past = b .past; fits = omega (arith, b .fits); head = b .head; children = λ y i. ok-more p u u' l y h (b .children y i) })
   ]
 
-  -- p' with u' words used comes from p with u by a change at and below the node of depth d at q: the places that it has more are the new ones
+  -- p' with u' words used comes from p with u by a change at and below the node of level d + 1 at q: the places that it has more are the new ones
   pub record Step (d : ℕ) (p p' : List ℕ) (u u' q : ℕ) : Type 0 where
     pub len : length p' ≡ length p
     pub grows : u ≤ u'
@@ -119,7 +119,7 @@ module _ (L : Ladder) where
     pub child-own : word p' q ≡ word p q
     child-own = sym (only-own (fanOutOf L) p' u c (g .sep) (g .at) (r .only))
 
-    pub child-head : word p' (suc (c .k)) ≡ word p (suc (c .k))
+    child-head : word p' (suc (c .k)) ≡ word p (suc (c .k))
     child-head = let e = only-head (fanOutOf L) (By ltb) p' u c (g .sep) (g .ok) (r .only) in sym (rw (c .link) at e)
 
     pub child-agree : (z : ℕ) → Child (fanOutOf L) p (suc d) q z → z ≢ y → Agree (fanOutOf L) p p' (suc d) z

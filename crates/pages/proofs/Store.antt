@@ -76,7 +76,7 @@ module _ (L : Ladder) where
       go (suc k) e room = rw (h, openingsW, e) (omega arith)
 
   -- of a store at a node, its child gets what the child's store asks for
-  pub store-child : (d d' b : ℕ) (v : Bool) (ks : List (Tree d)) → SoundTree L (suc d) (node v ks) → BlockIn L (suc d) d' b → d' < suc d → Wholly (free L (suc d) (node v ks)) b (frames L d') false
+  store-child : (d d' b : ℕ) (v : Bool) (ks : List (Tree d)) → SoundTree L (suc d) (node v ks) → BlockIn L (suc d) d' b → d' < suc d → Wholly (free L (suc d) (node v ks)) b (frames L d') false
       → SoundTree L d (child d (opened L d ks) (b / frames L d)) × Wholly (free L d (child d (opened L d ks) (b / frames L d))) (b % frames L d) (frames L d') false
   unfolding free handedOn
   store-child d d' b true ks s p l h = absurd (true≢false (h b (omega arith) (omega (arith, frames-pos L d'))))
@@ -86,12 +86,12 @@ module _ (L : Ladder) where
   )
 
   -- the store at a node, whose tree has the children ks, from that at the child
-  pub store-node : (d d' b : ℕ) (v : Bool) (ks : List (Tree d)) → ltb d' (suc d) ≡ true
+  store-node : (d d' b : ℕ) (v : Bool) (ks : List (Tree d)) → ltb d' (suc d) ≡ true
       → store L (suc d) d' (node v ks) b ≡ merge d (set (opened L d ks) (b / frames L d) (store L d d' (child d (opened L d ks) (b / frames L d)) (b % frames L d)))
   unfolding store
   store-node d d' b v ks h = rw (h, store)
 
-  pub store-top : (d d' b : ℕ) (t : Tree (suc d)) → ltb d' (suc d) ≡ false → store L (suc d) d' t b ≡ mark (suc d) true t
+  store-top : (d d' b : ℕ) (t : Tree (suc d)) → ltb d' (suc d) ≡ false → store L (suc d) d' t b ≡ mark (suc d) true t
   unfolding store
   store-top d d' b (node v ks) h = rw (h, store)
 
@@ -107,13 +107,13 @@ module _ (L : Ladder) where
     c16 : 8 + suc d < 16
     c16 = omega arith
 
-    pub offer-step : Step L d (s .pool) (markW (8 + suc d) s q .pool) (s .used) (s .used) q
+    offer-step : Step L d (s .pool) (markW (8 + suc d) s q .pool) (s .used) (s .used) q
     offer-step = own-step L d (s .pool) (s .used) q (8 + suc d) g c16
 
-    pub offer-view : view L d (word (markW (8 + suc d) s q .pool)) q ≡ mark d true (view L d (word (s .pool)) q)
+    offer-view : view L d (word (markW (8 + suc d) s q .pool)) q ≡ mark d true (view L d (word (s .pool)) q)
     offer-view = own-view L d (s .pool) (s .used) q (8 + suc d) g c16 true (marks-token (suc d) (word (s .pool) q) small)
 
-    pub offer-maxed : Maxed L d (s .pool) q → Maxed L d (markW (8 + suc d) s q .pool) q
+    offer-maxed : Maxed L d (s .pool) q → Maxed L d (markW (8 + suc d) s q .pool) q
     offer-maxed m =
         let e = own-here L d (s .pool) (s .used) q (8 + suc d) g c16 in
         maxed-mark L d (s .pool) (markW (8 + suc d) s q .pool) q (ap linkOf e ∙ omega arith) (own-agree L d (s .pool) (s .used) q (8 + suc d) g c16)

@@ -60,7 +60,7 @@ sum-find a (suc n) f h = elim (decLe 1 (f a)) [
   | no e ↦ let r = sum-find (suc a) n f (omega arith) in (r .0, omega (arith, r .1), r .2)
 ]
 
--- the pigeonhole: g lies maxBelow f everywhere, and the sums are equal: then so are the functions
+-- the pigeonhole: g lies below f everywhere, and the sums are equal: then so are the functions
 pub sum-le : (a n : ℕ) (f g : ℕ → ℕ) → ((x : ℕ) → In a n x → g x ≤ f x) → sumOver a n g ≤ sumOver a n f
 unfolding sumOver
 sum-le a zero f g h = omega arith

@@ -1,4 +1,4 @@
--- The walk and the sweep, a law for each way through them. Assumes nothing.
+-- The sweep, a law for each way through it. Assumes nothing.
 use mathlib.Core.Bool.{Bool, true, false, _&&_}
 use mathlib.Core.List.{List}
 use mathlib.Core.Path.{_≡_, refl, ap, ap₂, _∙_}

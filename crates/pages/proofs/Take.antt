@@ -40,7 +40,7 @@ whole-token (suc d) (node false ks) h = absurd (omega (arith, maximum-le (larges
 
 module _ (L : Ladder) where
   -- ---- one level of the tree
-  pub pick-marked : (d d' : ℕ) (t : Tree d) → pick L d d' (mark d true t) ≡ 0
+  pick-marked : (d d' : ℕ) (t : Tree d) → pick L d d' (mark d true t) ≡ 0
   unfolding pick
   pick-marked zero d' t = refl
   pick-marked (suc d) d' (node v ks) = refl
@@ -51,7 +51,7 @@ module _ (L : Ladder) where
     pub reaches : suc d' ≤ largest d (child d (handedOn L d v ks) i)
     pub base : pick L (suc d) d' (node v ks) ≡ i * frames L d + pick L d d' (child d (handedOn L d v ks) i)
 
-  pub pick-into : (d d' : ℕ) (v : Bool) (ks : List (Tree d)) → SoundNode L d (SoundTree L d) v ks → d' ≤ d → suc d' ≤ largest (suc d) (node v ks) → Into d d' v ks (first (λ x. leb (suc d') (largest d x)) (handedOn L d v ks))
+  pick-into : (d d' : ℕ) (v : Bool) (ks : List (Tree d)) → SoundNode L d (SoundTree L d) v ks → d' ≤ d → suc d' ≤ largest (suc d) (node v ks) → Into d d' v ks (first (λ x. leb (suc d') (largest d x)) (handedOn L d v ks))
   unfolding largest handedOn opened maximum pick
   pick-into d d' false [] s l h = absurd (omega arith)
   pick-into d d' false (k ∷ ks) s l h =
@@ -78,20 +78,20 @@ module _ (L : Ladder) where
       at0 : first (λ x. leb (suc d') (largest d x)) P ≡ 0
       at0 = elim (ℕ-discrete (first (λ x. leb (suc d') (largest d x)) P) 0) [ yes e ↦ e | no e ↦ absurd (omega (arith, big, f .before 0 (omega arith))) ]
 
-  pub remove-node : (d d' b : ℕ) (v : Bool) (ks : List (Tree d)) → ltb d' (suc d) ≡ true
+  remove-node : (d d' b : ℕ) (v : Bool) (ks : List (Tree d)) → ltb d' (suc d) ≡ true
       → remove L (suc d) d' (node v ks) b ≡ node false (set (handedOn L d v ks) (b / frames L d) (remove L d d' (child d (handedOn L d v ks) (b / frames L d)) (b % frames L d)))
   unfolding remove
   remove-node d d' b v ks h = rw (h, remove)
 
-  pub remove-top-is : (d d' b : ℕ) (t : Tree (suc d)) → ltb d' (suc d) ≡ false → remove L (suc d) d' t b ≡ mark (suc d) false t
+  remove-top-is : (d d' b : ℕ) (t : Tree (suc d)) → ltb d' (suc d) ≡ false → remove L (suc d) d' t b ≡ mark (suc d) false t
   unfolding remove
   remove-top-is d d' b (node v ks) h = rw (h, remove)
 
-  pub probes-node : (d d' b : ℕ) → ltb d' (suc d) ≡ true → probes L (suc d) d' b ≡ suc (b / frames L d) + probes L d d' (b % frames L d)
+  probes-node : (d d' b : ℕ) → ltb d' (suc d) ≡ true → probes L (suc d) d' b ≡ suc (b / frames L d) + probes L d d' (b % frames L d)
   unfolding probes
   probes-node d d' b h = rw (h, probes)
 
-  pub probes-top : (d d' b : ℕ) → ltb d' (suc d) ≡ false → probes L (suc d) d' b ≡ 0
+  probes-top : (d d' b : ℕ) → ltb d' (suc d) ≡ false → probes L (suc d) d' b ≡ 0
   unfolding probes
   probes-top d d' b h = rw (h, probes)
 
@@ -129,19 +129,19 @@ module _ (L : Ladder) where
     z16 : 0 < 16
     z16 = omega arith
 
-    pub clear-step : Step L d (s .pool) (markW 0 s q .pool) (s .used) (s .used) q
+    clear-step : Step L d (s .pool) (markW 0 s q .pool) (s .used) (s .used) q
     clear-step = own-step L d (s .pool) (s .used) q 0 g z16
 
-    pub clear-view : view L d (word (markW 0 s q .pool)) q ≡ mark d false (view L d (word (s .pool)) q)
+    clear-view : view L d (word (markW 0 s q .pool)) q ≡ mark d false (view L d (word (s .pool)) q)
     clear-view = own-view L d (s .pool) (s .used) q 0 g z16 false (marks-plain 0 (word (s .pool) q) (omega arith))
 
-    pub clear-maxed : SoundTree L d (view L d (word (s .pool)) q) → token d (view L d (word (s .pool)) q) ≡ true → Maxed L d (s .pool) q → Maxed L d (markW 0 s q .pool) q
+    clear-maxed : SoundTree L d (view L d (word (s .pool)) q) → token d (view L d (word (s .pool)) q) ≡ true → Maxed L d (s .pool) q → Maxed L d (markW 0 s q .pool) q
     clear-maxed sound t m =
         let e = own-here L d (s .pool) (s .used) q 0 g z16 in
         maxed-mark L d (s .pool) (markW 0 s q .pool) q (ap linkOf e ∙ omega arith) (own-agree L d (s .pool) (s .used) q 0 g z16)
         (ap maxOf e ∙ marks-max 0 (word (s .pool) q) (omega arith) ∙ sym (unmark-quiet L d (view L d (word (s .pool)) q) sound t) ∙ ap (largest d) (sym clear-view)) m
 
-  -- ---- one level of the words: the node of depth d + 1 at q is opened, its token handed on, and the first child with room entered
+  -- ---- one level of the words: the node of level d + 2 at q is opened, its token handed on, and the first child with room entered
   abbrev pub handed : ℕ → Words → ℕ → List ℕ
   handed d s q = handW L d (openW L d s q .pool) q
 

@@ -46,7 +46,7 @@ pub block-pos : {A : Type 0} (n : ℕ) (g : ℕ → A) (l : ℕ) → 0 < l → b
 block-pos n g zero h = absurd (omega arith)
 block-pos n g (suc l) h = refl
 
-pub new-token : (x : ℕ) → hasToken (16 * x) ≡ false
+new-token : (x : ℕ) → hasToken (16 * x) ≡ false
 new-token x = ne-eqb (16 * x / 8 % 2) 1 (λ e. omega arith)
 
 pub tab-map : {A B : Type 0} (f : A → B) (g : ℕ → A) (i n : ℕ) → map f (tab g i n) ≡ tab (λ j. f (g j)) i n

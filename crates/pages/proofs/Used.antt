@@ -1,4 +1,4 @@
--- An acquire as a whole, with refusals 8 and 9, on words; that it is the model's step; and the words that a store takes. Assumes nothing.
+-- The words in use are those of the tree, and behind a store or an acquire those that the pool tells before it. Assumes nothing.
 use mathlib.Core.Bool.{Bool}
 use mathlib.Core.List.{List, [], _∷_, _++_}
 use mathlib.Core.Path.{_≡_, refl, sym, ap, _∙_, subst}
@@ -34,7 +34,7 @@ use Rattle.pages.proofs.Tree.{tab-length}
 use Rattle.pages.proofs.View.{view-agree}
 
 -- a pool with more words, all 0, reads the same
-pub word-pad : (p : List ℕ) (n x : ℕ) → word (p ++ replicate n 0) x ≡ word p x
+word-pad : (p : List ℕ) (n x : ℕ) → word (p ++ replicate n 0) x ≡ word p x
 word-pad [] n x = getD-rep n x 0
 word-pad (y ∷ p) n zero = refl
 word-pad (y ∷ p) n (suc x) = word-pad p n x
@@ -51,7 +51,7 @@ words-node d v (k ∷ ks) h = refl
 
 module _ (L : Ladder) where
   -- ---- the words of the tree are the words of the blocks
-  pub words-view : (d : ℕ) (p : List ℕ) (u q : ℕ) → Readable L d p u q → treeWords d (view L d (word p) q) ≡ size (fanOutOf L) p (suc d) q
+  words-view : (d : ℕ) (p : List ℕ) (u q : ℕ) → Readable L d p u q → treeWords d (view L d (word p) q) ≡ size (fanOutOf L) p (suc d) q
   unfolding treeWords
   words-view zero p u q g = sym (size-shut (fanOutOf L) p 1 q (leaf-shut L p u q g))
   words-view (suc d) p u q g = ap (treeWords (suc d)) (view-node L d p q) ∙ go (linkOf (word p q)) refl (λ y c. words-view d p u y (readable-child L d p u q y g c))
@@ -131,4 +131,3 @@ module _ (L : Ladder) where
       let sh = step-shape L d P (o .pool) u (o .used) sp (r .step) (omega (arith, r .words, nd, pad-length d p u n s, s .high)) in
       ap (λ (y : Tree d). suc (treeWords d (remove L d d' y (pick L d d' y)))) (sym ve) ∙ ap (λ (y : Tree d). suc (treeWords d y)) (sym (r .tree))
       ∙ shape-used d (o .pool) (o .used) sh ∙ r .words ∙ ap (λ (y : ℕ). u + y) nd
-  -- ---- the acquire with its refusals

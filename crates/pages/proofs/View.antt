@@ -59,7 +59,7 @@ module _ (L : Ladder) where
       go (suc k) e ih = tab-same (view L d (word p')) (view L d (word p)) (suc (suc k)) (fan L (suc d)) (λ j lo hi. ih j (agree-child (fanOutOf L) p' (record { k = k; link = e; at = (lo, hi) }) a))
 
   -- a node whose link stays, and below which nothing changes, has another token at most
-  pub view-mark : (d : ℕ) (p p' : List ℕ) (q : ℕ) → linkOf (word p' q) ≡ linkOf (word p q) → ((z : ℕ) → Child (fanOutOf L) p d q z → Agree (fanOutOf L) p p' d z) → view L d (word p') q ≡ mark d (hasToken (word p' q)) (view L d (word p) q)
+  view-mark : (d : ℕ) (p p' : List ℕ) (q : ℕ) → linkOf (word p' q) ≡ linkOf (word p q) → ((z : ℕ) → Child (fanOutOf L) p d q z → Agree (fanOutOf L) p p' d z) → view L d (word p') q ≡ mark d (hasToken (word p' q)) (view L d (word p) q)
   unfolding view
   view-mark zero p p' q e a = refl
   view-mark (suc d) p p' q e a = rw e (ap (node (hasToken (word p' q))) (go (linkOf (word p q)) refl))
@@ -73,7 +73,7 @@ module _ (L : Ladder) where
     pub own-here : word (set p q (withMarks m (word p q))) q ≡ withMarks m (word p q)
     own-here = getD-set-same p q (withMarks m (word p q)) 0 (omega (arith, g .at, g .fit))
 
-    pub own-other : (x : ℕ) → x ≢ q → word (set p q (withMarks m (word p q))) x ≡ word p x
+    own-other : (x : ℕ) → x ≢ q → word (set p q (withMarks m (word p q))) x ≡ word p x
     own-other x ne = getD-set-other p q x (withMarks m (word p q)) 0 ne
 
     own-same : (x : ℕ) → word (set p q (withMarks m (word p q))) x / 16 ≡ word p x / 16
@@ -99,10 +99,10 @@ module _ (L : Ladder) where
     okb : OkBlock (fanOutOf L) (By ltb) p u (suc d) q (suc k) (Ok (fanOutOf L) (By ltb) p u (suc d))
     okb = ok-open (fanOutOf L) (By ltb) p u (suc d) q k (g .ok) link
 
-    pub a-child : (y : ℕ) → In (firstChild p q) (fan L (suc d)) y → Child (fanOutOf L) p (suc d) q y
+    a-child : (y : ℕ) → In (firstChild p q) (fan L (suc d)) y → Child (fanOutOf L) p (suc d) q y
     a-child y i = record { k = k; link = link; at = omega (arith, link, i) }
 
-    pub child-not : (y : ℕ) → Child (fanOutOf L) p (suc d) q y → y ≢ q
+    child-not : (y : ℕ) → Child (fanOutOf L) p (suc d) q y → y ≢ q
     child-not y c = apart-own (fanOutOf L) c (g .sep) y (places-self (fanOutOf L) p (suc d) y)
 
     child-in : (y : ℕ) → Child (fanOutOf L) p (suc d) q y → In (firstChild p q) (fan L (suc d)) y
@@ -118,7 +118,7 @@ module _ (L : Ladder) where
         getD-set-other (mapRun (withMarks m) p (firstChild p q) (fan L (suc d))) q y (withMarks m' (word p q)) 0 (child-not y c)
         ∙ mapRun-in (withMarks m) p (firstChild p q) (fan L (suc d)) y (omega (arith, child-in y c, okb .fits, link, g .fit)) (child-in y c .0) (child-in y c .1)
 
-    pub spread-other : (x : ℕ) → x ≢ q → (Child (fanOutOf L) p (suc d) q x → ⊥) → word spread x ≡ word p x
+    spread-other : (x : ℕ) → x ≢ q → (Child (fanOutOf L) p (suc d) q x → ⊥) → word spread x ≡ word p x
     unfolding spread
     spread-other x ne no-child =
         getD-set-other (mapRun (withMarks m) p (firstChild p q) (fan L (suc d))) q x (withMarks m' (word p q)) 0 ne
@@ -192,7 +192,7 @@ module _ (L : Ladder) where
     pub opens : Opened (s .pool) (openWith L (s .pool) (s .used) d q) (s .used) (suc d) q (fan L (suc d))
     opens = open-block L (s .pool) (s .used) d q (g .at) (omega arith) shut
 
-    pub open-new : OpenDone d s (openIf L d s q zero) q
+    open-new : OpenDone d s (openIf L d s q zero) q
     unfolding opened
     open-new = record {
       step = open-step L d p p' u q small g opens (open-length L p u d q)

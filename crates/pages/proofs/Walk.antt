@@ -1,4 +1,4 @@
--- The walk with one more test at each node, which may look at the node's level, place and base (the number of its first frame): it goes through exactly when the blocks' rules hold, the test passes at every node seen, and the count stays maxBelow used. Assumes nothing.
+-- The walk with its test of each node, which looks at the node's level, place and first frame: it goes through exactly when the blocks' rules hold, the test passes at every node seen, and the count stays maxBelow used. Assumes nothing.
 use mathlib.Core.Bool.{Bool, true, false, _&&_}
 use mathlib.Core.List.{List}
 use mathlib.Core.Logic.{inl, inr, _≢_}
@@ -49,7 +49,7 @@ walkBlock-yes used d f P z h a b (suc n) c ok lt =
     (omega arith)
     ∙ omega arith
 
--- fan: children of a node of a level; sz: frames of a node of a level
+-- fan and frames by level; loc is the test of a node
 module _ (fan frames : ℕ → ℕ) (ord : ℕ → ℕ → Bool) (p : List ℕ) (loc : ℕ → ℕ → ℕ → Bool) where
   -- the test passes at every node seen
   abbrev pub AllL : ℕ → ℕ → (ℕ → ℕ → Type 0) → ℕ → Type 0
@@ -77,8 +77,6 @@ module _ (fan frames : ℕ → ℕ) (ord : ℕ → ℕ → Bool) (p : List ℕ) 
   all-make l q b k t e h = (t, subst (AllL l b (All l)) (sym e) h)
 
   -- ---- it goes through only if all is well
-  GoodAt : ℕ → ℕ → ℕ → ℕ → Type 0
-  GoodAt used l a b = Ok fan (By ord) p used l a × All l a b
 
   walk-step : (used l q b c : ℕ) → ((a e d : ℕ) → walk fan frames ord p loc used l a e d < used → (Ok fan (By ord) p used l a × All l a e) × (walk fan frames ord p loc used l a e d ≡ d + size fan p l a)) → (t : Bool) (v : ℕ) → (eqb (levelOf (word p q)) (suc l) && loc (suc l) q b) ≡ t → linkOf (word p q) ≡ v → walkLink fan frames ord p loc t v (walk fan frames ord p loc used l) used l q b c < used → (Ok fan (By ord) p used (suc l) q × All (suc l) q b) × (walkLink fan frames ord p loc t v (walk fan frames ord p loc used l) used l q b c ≡ c + size fan p (suc l) q)
   walk-step used l q b c ih false v et ev lt = absurd (omega arith)
@@ -141,10 +139,6 @@ module _ (fan frames : ℕ → ℕ) (ord : ℕ → ℕ → Bool) (p : List ℕ) 
   unfolding walk
   walk-level used zero q b c h = refl
   walk-level used (suc l) q b c h = ap (λ (t : Bool). walkLink fan frames ord p loc t (linkOf (word p q)) (walk fan frames ord p loc used l) used l q b c) (not-passes (eqb (levelOf (word p q)) (suc l) && loc (suc l) q b) (λ e. h (eqb-true (levelOf (word p q)) (suc l) (and-true e .0))))
-
-  pub walk-none : (used q b c : ℕ) → walk fan frames ord p loc used 0 q b c ≡ used
-  unfolding walk
-  walk-none used q b c = refl
 
   pub walk-fails : (used l q b c : ℕ) → loc l q b ≡ false → walk fan frames ord p loc used l q b c ≡ used
   unfolding walk

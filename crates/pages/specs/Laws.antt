@@ -71,6 +71,9 @@ module _ (L : Ladder) where
     pub root : NodeLaws (top L) p u 0
     -- the words in use are the root's and those of the view's blocks
     pub used : u ≡ suc (treeWords (top L) (view L (top L) (word p) 0))
+    -- room, read before a write: the words that would be in use behind a store or an acquire, whether or not the pool has them
+    pub stored-words : (d' b : ℕ) → b < frames L (top L) → suc (treeWords (top L) (store L (top L) d' (view L (top L) (word p) 0) b)) ≡ u + openingsW L (top L) d' p 0 b
+    pub taken-words : (d' : ℕ) → d' ≤ top L → suc d' ≤ maxOf (word p 0) → suc (treeWords (top L) (remove L (top L) d' (view L (top L) (word p) 0) (pickW L (top L) d' p 0))) ≡ u + openingsW L (top L) d' p 0 (pickW L (top L) d' p 0)
     -- storing, taking and seeding keep the pool sound
     pub stored : (d' b : ℕ) → Held (top L) d' p u 0 b → SoundW L (top L) (storeW L (top L) d' (words p u) 0 b .pool) (storeW L (top L) d' (words p u) 0 b .used)
     pub taken : (d' : ℕ) → Offered (top L) d' p u 0 → SoundW L (top L) (takeW L (top L) d' (words p u) 0 .words .pool) (takeW L (top L) d' (words p u) 0 .words .used)
