@@ -7,8 +7,8 @@ use native.Mathlib.Decide.{decLe, ℕ-discrete}
 use native.Mathlib.Omega.{arith}
 use borrow.Author.Tests.{eq-eqb, ne-eqb}
 use Rattle.model.specs.Frames.{bit}
-use Rattle.pages.specs.Words.{levelOf, linkOf, word}
-use Rattle.pages.specs.inner.Blocks.{In, Ok, OkBlock, OkLink, childIn, childMet, delta, headMet, met, ofBlock, size, sumOver, total}
+use Rattle.pages.specs.Words.{levelOf, linkOf, word, sumOver}
+use Rattle.pages.specs.inner.Blocks.{In, Ok, OkBlock, OkLink, childIn, childMet, delta, headMet, met, ofBlock, size, total}
 use Rattle.pages.proofs.Sums.{sum-add, sum-find, sum-ge, sum-swap, sum-zero}
 
 -- ---- delta

@@ -4,8 +4,8 @@ use mathlib.Core.Logic.{inl, inr}
 use mathlib.Core.Path.{_≡_, refl, ap₂, _∙_, fun-ext}
 use Prim.Native.Nat.{ℕ, zero, suc, _+_, _/_, _≤_}
 use native.Mathlib.Omega.{arith}
-use Rattle.pages.specs.Words.{levelOf, linkOf, word}
-use Rattle.pages.specs.inner.Blocks.{Ok, delta, headMet, ofBlock, sumOver, total}
+use Rattle.pages.specs.Words.{levelOf, linkOf, word, sumOver}
+use Rattle.pages.specs.inner.Blocks.{Ok, delta, headMet, ofBlock, total}
 use Rattle.pages.proofs.Blocks.{delta-same, ok-make, ok-open, ok-shut, total-open, zeroOr}
 use Rattle.pages.proofs.Sums.{sum-ge}
 

@@ -8,8 +8,8 @@ use native.Mathlib.Decide.{decLe, decLt, ℕ-discrete}
 use native.Mathlib.Omega.{arith}
 use lib.Dec.{ltb}
 use borrow.Author.Tests.{leb-true, ltb-true, eqb-true}
-use Rattle.pages.specs.Words.{levelOf, linkOf, word}
-use Rattle.pages.specs.inner.Blocks.{By, In, Ok, Once, childIn, childMet, delta, headMet, met, size, sumOver, total}
+use Rattle.pages.specs.Words.{levelOf, linkOf, word, sumOver}
+use Rattle.pages.specs.inner.Blocks.{By, In, Ok, Once, childIn, childMet, delta, headMet, met, size, total}
 use Rattle.pages.specs.inner.Check.{starts, sweep, tile}
 use Rattle.pages.proofs.Blocks.{Sees, childIn-in, childIn-of, delta-eq, delta-same, here, met-split, ok-level, ok-open, sees-block, sees-ok, sees-snoc, sum-delta, total-find, total-open, total-shut, total-sum, zeroOr}
 use Rattle.pages.proofs.Sums.{pigeon, sum-add, sum-cong, sum-le, sum-one, sum-swap}

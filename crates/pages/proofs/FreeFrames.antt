@@ -23,8 +23,8 @@ use Rattle.model.specs.Tree.{SoundNode, Tree, empty, free, freeFrames, largest,
 use Rattle.pages.specs.Limits.{mostFrames}
 use Rattle.pages.specs.Room.{tokensIn}
 use Rattle.pages.specs.View.{block, tab, view}
-use Rattle.pages.specs.Words.{fanOutOf, framesOf, hasToken, levelOf, linkOf, tokenOf, word}
-use Rattle.pages.specs.inner.Blocks.{By, In, Ok, OkBlock, Once, childIn, childMet, delta, headMet, ofBlock, sumOver, total}
+use Rattle.pages.specs.Words.{fanOutOf, framesOf, hasToken, levelOf, linkOf, tokenOf, word, sumOver}
+use Rattle.pages.specs.inner.Blocks.{By, In, Ok, OkBlock, Once, childIn, childMet, delta, headMet, ofBlock, total}
 use Rattle.pages.specs.inner.Check.{SoundW, tile}
 use Rattle.pages.proofs.Blocks.{Sees, childIn-in, delta-same, delta-other, met-split, ok-level, ok-open, sees-block, sees-ok, sum-delta, total-open, total-shut, total-sum, zeroOr}
 use Rattle.pages.proofs.Cover.{head-small, total-cong}

@@ -8,8 +8,8 @@ use native.Mathlib.Decide.{decLe, ℕ-discrete}
 use native.Mathlib.Omega.{arith}
 use lib.Dec.{leb, ltb, eqb}
 use borrow.Author.Tests.{eq-eqb, le-leb}
-use Rattle.pages.specs.Words.{levelOf, linkOf, word}
-use Rattle.pages.specs.inner.Blocks.{By, In, Ok, Once, childIn, childMet, delta, headMet, met, size, sumOver}
+use Rattle.pages.specs.Words.{levelOf, linkOf, word, sumOver}
+use Rattle.pages.specs.inner.Blocks.{By, In, Ok, Once, childIn, childMet, delta, headMet, met, size}
 use Rattle.pages.specs.inner.Check.{starts, sweep, tile}
 use Rattle.pages.proofs.Blocks.{Sees, childIn-in, childIn-of, delta-eq, delta-same, down, here, met-split, ok-level, ok-open, sees-block, sees-ok, total-find, zeroOr}
 use Rattle.pages.proofs.Cover.{and-intro, sum-met}

@@ -5,8 +5,8 @@ use mathlib.Core.Path.{_≡_, refl, sym, ap, _∙_, fun-ext}
 use Prim.Native.Nat.{ℕ, zero, suc, _+_, _/_, _≤_, _<_}
 use native.Mathlib.Decide.{decLe, decLt, ℕ-discrete}
 use native.Mathlib.Omega.{arith}
-use Rattle.pages.specs.Words.{levelOf, linkOf, word}
-use Rattle.pages.specs.inner.Blocks.{Child, In, Ok, Once, Sep, childIn, delta, met, ofBlock, placesOf, sumOver, total}
+use Rattle.pages.specs.Words.{levelOf, linkOf, word, sumOver}
+use Rattle.pages.specs.inner.Blocks.{Child, In, Ok, Once, Sep, childIn, delta, met, ofBlock, placesOf, total}
 use Rattle.pages.proofs.Blocks.{delta-other, delta-same, ok-make, ok-open, ok-shut, total-open, total-shut, zeroOr}
 use Rattle.pages.proofs.Needed.{met-place}
 use Rattle.pages.proofs.Sums.{sum-add, sum-cong, sum-ge, sum-ge2}

@@ -12,8 +12,8 @@ use borrow.Author.Tests.{lt-ltb, le-ltb, le-leb, lt-leb}
 use Rattle.sizes.specs.Ladder.{Ladder}
 use Rattle.model.specs.Frames.{bit}
 use Rattle.model.specs.Ladder.{fan}
-use Rattle.pages.specs.Words.{fanOutOf, levelOf, linkOf, word}
-use Rattle.pages.specs.inner.Blocks.{By, Child, In, Ok, OkBlock, Readable, childIn, delta, headMet, met, placesOf, sumOver}
+use Rattle.pages.specs.Words.{fanOutOf, levelOf, linkOf, word, sumOver}
+use Rattle.pages.specs.inner.Blocks.{By, Child, In, Ok, OkBlock, Readable, childIn, delta, headMet, met, placesOf}
 use Rattle.pages.proofs.Blocks.{childIn-in, delta-other, delta-same, met-split, ok-level, ok-make, ok-open, ok-shut, total-open, zeroOr}
 use Rattle.pages.proofs.Change.{ok-relabel, total-links}
 use Rattle.pages.proofs.Opening.{Grown, Opened, childIn-one, childIn-out, opened-grown}

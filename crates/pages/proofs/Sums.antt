@@ -4,7 +4,8 @@ use Prim.Native.Nat.{ℕ, zero, suc, _+_, _*_, _≤_, _<_}
 use native.Mathlib.Decide.{decLe, ℕ-discrete}
 use native.Mathlib.Nat.{add-zero, zero-add}
 use native.Mathlib.Omega.{arith}
-use Rattle.pages.specs.inner.Blocks.{In, sumOver}
+use Rattle.pages.specs.Words.{sumOver}
+use Rattle.pages.specs.inner.Blocks.{In}
 use Rattle.pages.specs.inner.Check.{maxBelow}
 
 pub sum-cong : (a n : ℕ) (f g : ℕ → ℕ) → ((x : ℕ) → In a n x → f x ≡ g x) → sumOver a n f ≡ sumOver a n g

@@ -9,8 +9,8 @@ use Rattle.sizes.specs.Ladder.{Ladder}
 use Rattle.model.proofs.Frames.{within-above, within-below, within-in}
 use Rattle.model.specs.Frames.{bit, within}
 use Rattle.pages.specs.Sound.{times}
-use Rattle.pages.specs.Words.{fanOutOf, linkOf, word}
-use Rattle.pages.specs.inner.Blocks.{Ok, Once, childIn, delta, met, sumOver, total}
+use Rattle.pages.specs.Words.{fanOutOf, linkOf, word, sumOver}
+use Rattle.pages.specs.inner.Blocks.{Ok, Once, childIn, delta, met, total}
 use Rattle.pages.proofs.Blocks.{delta-other, delta-same, total-open, total-shut, zeroOr}
 use Rattle.pages.proofs.Needed.{met-place}
 use Rattle.pages.proofs.Opening.{childIn-one, childIn-out}

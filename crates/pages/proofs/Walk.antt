@@ -7,8 +7,8 @@ use Prim.Native.Nat.{ℕ, zero, suc, _+_, _-_, _*_, _≤_, _<_}
 use native.Mathlib.Omega.{arith}
 use lib.Dec.{eqb}
 use borrow.Author.Tests.{eq-eqb, le-leb, lt-ltb, leb-true, ltb-true, eqb-true}
-use Rattle.pages.specs.Words.{levelOf, linkOf, word}
-use Rattle.pages.specs.inner.Blocks.{By, Ok, size, sumOver}
+use Rattle.pages.specs.Words.{levelOf, linkOf, word, sumOver}
+use Rattle.pages.specs.inner.Blocks.{By, Ok, size}
 use Rattle.pages.specs.inner.Check.{Enter, enters, walk, walkBlock, walkIf, walkLink}
 use Rattle.pages.proofs.Blocks.{ok-level, ok-make, ok-open, ok-shut, size-open, size-shut, zeroOr}
 use Rattle.pages.proofs.Cover.{and-intro, and-true}

@@ -42,6 +42,11 @@ firstChild p q = suc (linkOf (word p q))
 abbrev pub run : List ℕ → (a n : ℕ) → List ℕ
 run p a n = take n (drop a p)
 
+-- f a + f (a + 1) + …, n summands
+unfoldable pub sumOver : (a n : ℕ) → (ℕ → ℕ) → ℕ
+sumOver a zero f = 0
+sumOver a (suc n) f = f a + sumOver (suc a) n f
+
 module _ (L : Ladder) where
   -- how many children a node of a level has, and how many frames
   abbrev pub fanOutOf : ℕ → ℕ

@@ -1,10 +1,11 @@
 // Reading a sound pool: is some frame of a block free, and how many frames are.
 ghost use mathlib.Core.Path.{_≡_};
-ghost use Prim.Native.Nat.{ℕ, pred, _+_, _≤_, _<_};
+ghost use Prim.Native.Nat.{ℕ, pred, _+_, _*_, _≤_, _<_};
 ghost use lib.ListN.{length};
-ghost use Rattle.sizes.specs.Six.{six, mostChildren};
+ghost use Rattle.sizes.specs.Ladder.{smallest, bytes};
+ghost use Rattle.sizes.specs.Six.{six, mostBytes, mostChildren};
 ghost use Rattle.model.specs.Ladder.{top};
-ghost use Rattle.model.specs.Tree.{freeFrames};
+ghost use Rattle.model.specs.Tree.{freeFrames, largest as largest_of};
 ghost use Rattle.pages.specs.Limits.{mostFrames};
 ghost use Rattle.pages.specs.Words.{word as word_at};
 ghost use Rattle.pages.specs.Room.{anyFreeW, tokensIn};
@@ -80,4 +81,20 @@ pub fn free_frames(pool: &[u32], used: usize) -> u64
         s = first + n;
     }
     total
+}
+
+// The sum of the tokens' bytes.
+pub fn free_bytes(pool: &[u32], used: usize) -> u64
+    requires { ⌜ SoundW six (top six) (now pool) used ⌝ }
+    ensures { λ r. ⌜ (r ≡ freeFrames six (top six) (view six (top six) (word_at (now (pool .entry))) 0) * bytes six smallest) × (r ≤ mostBytes) ⌝ }
+{
+    free_frames(pool, used) * sizes::in_bytes(sizes::smallest())
+}
+
+// The code of the largest free block, 0 for none: the root's max.
+pub fn largest(pool: &[u32], used: usize) -> usize
+    requires { ⌜ SoundW six (top six) (now pool) used ⌝ }
+    ensures { λ r. ⌜ r ≡ largest_of (top six) (view six (top six) (word_at (now (pool .entry))) 0) ⌝ }
+{
+    wide(max_of(word(pool, Place(0))))
 }

@@ -7,12 +7,7 @@ use lib.Dec.{eqb, ltb}
 use lib.ListN.{length}
 use Rattle.sizes.specs.Ladder.{Ladder}
 use Rattle.model.specs.Frames.{bit}
-use Rattle.pages.specs.Words.{word, levelOf, linkOf, fanOutOf}
-
--- f a + f (a + 1) + …, n summands
-unfoldable pub sumOver : (a n : ℕ) → (ℕ → ℕ) → ℕ
-sumOver a zero f = 0
-sumOver a (suc n) f = f a + sumOver (suc a) n f
+use Rattle.pages.specs.Words.{word, levelOf, linkOf, sumOver, fanOutOf}
 
 -- x is one of the n numbers from a on
 abbrev pub In : (a n x : ℕ) → Type 0
