@@ -8,6 +8,7 @@ use kinds::KINDS;
 use sources::{LENGTH, Source};
 
 mod kinds;
+pub mod list;
 mod outside;
 mod questions;
 mod shape;

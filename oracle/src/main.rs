@@ -1,6 +1,7 @@
 //! The judges of document 01 from the command line.
 
 use oracle::compare::{Found, compare_readings, plan, sweep, table};
+use oracle::damage::list;
 use oracle::generate::{Profile, record};
 use oracle::journal::encode;
 use oracle::shrink::shrink;
@@ -16,6 +17,10 @@ const USAGE: &str = "usage:
   oracle journal PROFILE NUMBER LENGTH > FILE  writes a generated journal
   oracle compare [ENTRIES [NUMBER [PROFILE]]]  compares all judges (200000 entries, numbers from 1 on, all profiles)
   oracle damage [STORES [NUMBER]]              compares two judges of soundness on damaged stores (100000)
+  oracle damage-list FILE                      writes damaged stores for a program that asks a check of each
+  oracle damage-verdicts < LIST                what such a program must print, by the reference's check
+  oracle check-times [FILE [PROGRAM]]          times checks of three stores; writes them as a list for a program that
+                                               asks a check of each, and times the program on it
   oracle mutants                               shows that wrong stores are found
 profiles:";
 
@@ -41,6 +46,9 @@ fn main() -> ExitCode {
         ["journal", profile, number, length] => write_journal(profile, number, length),
         ["compare", ref rest @ ..] if rest.len() <= 3 => compare(rest),
         ["damage", ref rest @ ..] if rest.len() <= 2 => run_damage(rest),
+        ["damage-list", file] => write_to(file, &list::list()),
+        ["damage-verdicts"] => read_input().and_then(|bytes| print(&list::verdicts(&bytes, reference::CALLS.check))),
+        ["check-times", ref rest @ ..] if rest.len() <= 2 => check_times(rest),
         ["mutants"] => mutants::run().and_then(|text| print(text.as_bytes())),
         _ => Err(usage()),
     };
@@ -127,4 +135,20 @@ fn run_damage(arguments: &[&str]) -> Result<(), String> {
     let stores = number_or(arguments, 0, STORES)?;
     let first = number_or(arguments, 1, 1)?;
     damage::run(first, stores).and_then(|text| print(text.as_bytes()))
+}
+
+fn write_to(file: &str, bytes: &[u8]) -> Result<(), String> {
+    std::fs::write(file, bytes).map_err(|error| format!("{file} cannot be written: {error}"))
+}
+
+/// Times the checks here, and by the program if one is named, on the list that goes into the file.
+fn check_times(arguments: &[&str]) -> Result<(), String> {
+    if let [file, ..] = arguments {
+        write_to(file, &list::times_list())?;
+    }
+    let program = match arguments {
+        [file, program] => list::by_program(file, program).map_err(|error| format!("{program}: {error}"))?,
+        _ => Vec::new(),
+    };
+    print(list::times_table(&program).as_bytes())
 }
