@@ -17,16 +17,38 @@ use Rattle.model.proofs.Free.{frames-le}
 use Rattle.model.proofs.Ladder.{fan-pos, frames-dvd, frames-pos}
 use Rattle.model.proofs.Lists.{getD-map-lt}
 use Rattle.model.proofs.Range.{child-at, child-no, low-fits}
-use Rattle.model.specs.Ladder.{fan, frames}
+use Rattle.model.specs.Ladder.{fan, frames, top}
 use Rattle.model.specs.Laws.{BlockIn}
 use Rattle.model.specs.Lists.{all}
-use Rattle.model.specs.SeedRoom.{openingsAfter}
 use Rattle.model.specs.Tree.{Sound, Tree, child, empty, mark, merge, node, opened, opening, openings, store, token}
+use Rattle.model.specs.TreeStore.{largestFit}
 
 -- what stands at b: at 0 the one, elsewhere the other
 abbrev pub at0 : ℕ → Type 0 → Type 0 → Type 0
 at0 zero A B = A
 at0 (suc b) A B = B
+
+module _ (L : Ladder) where
+  -- the words that the store of the block of code suc d' at b opens, where the frame before b was stored since t
+  unfoldable pub openingsAfter : (d d' : ℕ) → Tree d → ℕ → ℕ
+  openingsAfter zero d' t b = 0
+  openingsAfter (suc d) d' (node v ks) zero = openings L (suc d) d' (node v ks) zero
+  openingsAfter (suc d) d' (node v ks) (suc b) = elim (ltb d' (suc d)) [ false ↦ 0 | true ↦ openingsAfter d d' (child d ks (suc b / frames L d)) (suc b % frames L d) ]
+
+  -- the words that a seed of the frames from a to e opens, in k blocks at most: behind its first block, and in all
+  unfoldable pub seedRest : ℕ → Tree (top L) → (a e : ℕ) → ℕ
+  seedRest zero t a e = 0
+  seedRest (suc k) t a e = elim (ltb a e) [
+    | false ↦ 0
+    | true ↦ let c = largestFit L (top L) a e in openingsAfter (top L) c t a + seedRest k t (a + frames L c) e
+  ]
+
+  unfoldable pub seedOpenings : ℕ → Tree (top L) → (a e : ℕ) → ℕ
+  seedOpenings zero t a e = 0
+  seedOpenings (suc k) t a e = elim (ltb a e) [
+    | false ↦ 0
+    | true ↦ let c = largestFit L (top L) a e in openings L (top L) c t a + seedRest k t (a + frames L c) e
+  ]
 
 module _ (L : Ladder) where
   -- opened alike

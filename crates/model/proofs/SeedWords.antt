@@ -8,12 +8,11 @@ use borrow.Author.Tests.{ltb-true}
 use Rattle.sizes.specs.Ladder.{Ladder}
 use Rattle.model.proofs.Change.{store-done}
 use Rattle.model.proofs.Seed.{largestFit-ok}
-use Rattle.model.proofs.SeedRoom.{After, after-later, after-need, later-refl, store-after}
+use Rattle.model.proofs.SeedRoom.{seedRest, seedOpenings, After, after-later, after-need, later-refl, store-after}
 use Rattle.model.proofs.Words.{words-store}
 use Rattle.model.specs.Frames.{Wholly}
 use Rattle.model.specs.Ladder.{frames, top}
 use Rattle.model.specs.Laws.{BlockIn, Made}
-use Rattle.model.specs.SeedRoom.{seedOpenings, seedRest}
 use Rattle.model.specs.Tree.{Sound, Tree, free, store, words}
 use Rattle.model.specs.TreeStore.{largestFit, seedFrom}
 

@@ -5,7 +5,6 @@ pub mod FrameStore
 pub mod Lists
 pub mod Tree
 pub mod TreeStore
-pub mod SeedRoom
 pub mod Laws
 pub mod Runs
 pub mod Demands

@@ -13,10 +13,10 @@ use Rattle.sizes.specs.Six.{six}
 use Rattle.model.proofs.Change.{child-lt}
 use Rattle.model.proofs.Ladder.{frames-pos}
 use Rattle.model.specs.Ladder.{fan, frames}
-use Rattle.pages.specs.Nodes.{Words, childrenAll, childrenMax, handIf, handW, mapRun, markW, mergeIf, mergeW, openIf, openW, openWith, refreshW, storeW, withMarks}
+use Rattle.pages.specs.Nodes.{Words, childrenAll, childrenMax, handIf, handW, mapRun, markW, mergeIf, mergeW, openIf, openW, openWith, refreshW, storeW, withMarks, words}
 use Rattle.pages.specs.Room.{openingsW}
 use Rattle.pages.specs.Words.{fanOutOf, firstChild, linkOf, pack, run, word}
-use Rattle.pages.specs.inner.Asks.{OpenAsk, RunAsk, StoreAsk, words}
+use Rattle.pages.specs.inner.Asks.{OpenAsk, RunAsk, StoreAsk}
 use Rattle.pages.specs.inner.Blocks.{Child, Readable}
 use Rattle.pages.proofs.Max.{run-fits}
 use Rattle.pages.proofs.Step.{child-own, readable-child, step-readable}

@@ -1,10 +1,10 @@
 -- The laws of pools, gathered. Assumes nothing.
 use mathlib.Core.Bool.{false, _&&_}
 use mathlib.Core.List.{List}
-use mathlib.Core.Path.{_≡_, sym, ap, _∙_, subst}
+use mathlib.Core.Path.{_≡_, sym, ap, ap₂, _∙_, subst}
 use Prim.Native.Nat.{ℕ, suc, _+_, _-_, _≤_, _<_}
 use native.Mathlib.Omega.{arith}
-use lib.Dec.{leb, ltb}
+use lib.Dec.{leb, ltb, eqb}
 use lib.ListN.{length}
 use Rattle.sizes.specs.Ladder.{Ladder}
 use Rattle.model.proofs.Ladder.{frames-pos}
@@ -12,26 +12,29 @@ use Rattle.model.specs.Calls.{seeded, stored}
 use Rattle.model.specs.Frames.{Wholly, bit, within}
 use Rattle.model.specs.Ladder.{frames, probes, top}
 use Rattle.model.specs.Tree.{Sound as SoundTree}
-use Rattle.model.specs.Tree.{free, largest, openings, pick, remove}
+use Rattle.model.specs.Tree.{Tree, free, largest, openings, pick, remove}
 use Rattle.model.specs.Tree.{words as treeWords}
 use Rattle.model.specs.TreeStore.{picked, seedFrom}
-use Rattle.pages.specs.Laws.{Changes, Held, Laws, NodeLaws, Offered, PoolLaws}
-use Rattle.pages.specs.Nodes.{Words, storeW, takeW}
+use Rattle.pages.specs.Laws.{Apart, Changes, Held, Laws, NodeLaws, Offered, PoolLaws, Seeds, placesIn}
+use Rattle.pages.specs.Nodes.{Words, storeW, takeW, words}
 use Rattle.pages.specs.Room.{openingsW, pickW, seedOpeningsW, seedW}
 use Rattle.pages.specs.View.{view}
-use Rattle.pages.specs.Words.{fanOutOf, maxOf, word}
-use Rattle.pages.specs.inner.Asks.{Maxed, words}
-use Rattle.pages.specs.inner.Blocks.{Readable, placesOf}
+use Rattle.pages.specs.Words.{fanOutOf, framesOf, maxOf, word}
+use Rattle.pages.specs.inner.Asks.{Maxed}
+use Rattle.pages.specs.inner.Blocks.{Readable, delta, placesOf}
 use Rattle.pages.specs.inner.Check.{Marked, SoundW}
 use Rattle.pages.proofs.AnyFree.{anyFreeW-is}
 use Rattle.pages.proofs.AskTake.{taken}
 use Rattle.pages.proofs.Kept.{marked-sound, shape-readable, storeW-sound, takeW-sound}
 use Rattle.pages.proofs.Max.{maxed-own}
 use Rattle.pages.proofs.Pick.{pickW-is}
+use Rattle.pages.proofs.SoundView.{sound-laws}
+use Rattle.pages.proofs.Apart.{stored-apart as store-apart, taken-apart as take-apart}
 use Rattle.pages.proofs.Seeding.{Seeded, openingsW-is, seedW-done, used-seed}
 use Rattle.pages.proofs.Step.{Step, new}
 use Rattle.pages.proofs.Store.{Stored, storeW-done}
 use Rattle.pages.proofs.Take.{Took, takeW-done}
+use Rattle.pages.proofs.Times.{times-met}
 use Rattle.pages.proofs.Used.{shape-used, used-store, used-take}
 
 module _ (L : Ladder) where
@@ -41,10 +44,15 @@ module _ (L : Ladder) where
       let e : u' ≡ u + (u' - u) = omega arith in
       ap (λ (v : ℕ). bit (leb u x && ltb x v)) e
 
+  -- the places of a node, as the walk's sums count them
+  places-in : (p : List ℕ) (x d q : ℕ) → placesIn L p x d q ≡ placesOf (fanOutOf L) p x (suc d) q
+  unfolding placesOf delta
+  places-in p x d q = ap (λ (n : ℕ). bit (eqb q x) + n) (times-met L p x (suc d) q)
+
   changes : (d : ℕ) (p : List ℕ) (u q : ℕ) (o : Words) → Step L d p (o .pool) u (o .used) q → Changes L d p u q o
   changes d p u q o s = record {
-    only = λ x lt e. sym (s .only x lt (omega arith));
-    more = λ x. s .count x ∙ ap (λ (n : ℕ). placesOf (fanOutOf L) p x (suc d) q + n) (new-within u (o .used) x (s .grows));
+    only = λ x lt e. sym (s .only x lt (omega (arith, e, places-in p x d q)));
+    more = λ x. places-in (o .pool) x d q ∙ s .count x ∙ ap₂ (λ (m n : ℕ). m + n) (sym (places-in p x d q)) (new-within u (o .used) x (s .grows));
     behind = s .behind;
     length = s .len;
     grows = s .grows;
@@ -78,6 +86,10 @@ module _ (L : Ladder) where
       openings = λ d' b h. openingsW-is L d d' p u q b g h;
       stored-used = λ d' b h. store-of d' b h .words;
       taken-used = λ d' o. take-of d' o .words ∙ ap (λ (b : ℕ). u + openingsW L d d' p q b) (sym (picks d' (o .offers)));
+      stored-apart = λ d' b m r c y h n a t. store-apart L d d' p u q b small g (h .block) (h .room) m r c y n a t;
+      taken-apart = λ d' m r c y o n a t.
+          let e = picks d' (o .offers) in
+          take-apart L d d' p u q small g (o .deep) (x .1) (x .0) (big d' (o .offers)) (omega (arith, o .room, ap (openingsW L d d' p q) e)) m r c y n (subst (λ (b : ℕ). Apart b (frames L d') c (framesOf L m)) e a) t;
       any-free = λ d' b h. anyFreeW-is L d d' p u q b g (x .0) h;
     }
 
@@ -93,6 +105,18 @@ module _ (L : Ladder) where
         → Seeded L (e - a) p u a e (seedW L (e - a) (words p u) a e)
     seed-of a e l h f room = let z : a + (e - a) ≡ e = omega arith in seedW-done L (e - a) p u a e (e - a) small s z h f (omega (arith, seed-room a e l h f))
 
+    seeds : (a e : ℕ) → a ≤ e → e ≤ frames L (top L) → Wholly (free L (top L) (view L (top L) (word p) 0)) a (e - a) false → u + seedOpeningsW L (e - a) p a e ≤ length p → Seeds L p u a e (seedW L (e - a) (words p u) a e)
+    seeds a e l h f room =
+        let o = seedW L (e - a) (words p u) a e in
+        let r = seed-of a e l h f room in
+        record {
+          tree = r .tree;
+          sound = r .sound;
+          used = sym (shape-used L (top L) (o .pool) (o .used) (r .sound .shape)) ∙ ap (λ (t : Tree (top L)). suc (treeWords (top L) t)) (r .tree) ∙ seed-room a e l h f;
+          length = r .length;
+          behind = r .behind;
+        }
+
     pub pool-laws : PoolLaws L p u
     pool-laws = record {
       root = root;
@@ -102,8 +126,8 @@ module _ (L : Ladder) where
       stored = λ d' b h. storeW-sound L (top L) d' p u b small s (h .block) (h .held) (h .room) .sound;
       taken = λ d' o. takeW-sound L (top L) d' p u small s (o .deep) (o .offers) (omega (arith, o .room, ap (openingsW L (top L) d' p 0) (root .picked d' (o .deep) (o .offers)))) .2 .sound;
       seeded-words = seed-room;
-      seeded = λ a e l h f room. (seed-of a e l h f room .tree, seed-of a e l h f room .sound);
+      seeded = seeds;
     }
 
   pub laws : Laws L
-  laws = record { nodes = node-laws; pools = pool-laws }
+  laws = record { sound = sound-laws L; nodes = node-laws; pools = pool-laws }

@@ -36,5 +36,7 @@ pub mod Quiet
 pub mod Fields
 pub mod Decide
 pub mod FreeFrames
+pub mod SoundView
+pub mod Apart
 pub mod Laws
 pub mod Cases

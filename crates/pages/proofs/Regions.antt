@@ -121,7 +121,7 @@ module _ (L : Ladder) (m : MultipliesUp L) where
     abbrev others : 0 < r .count → Regions L (most - 1) ss es
     others p = record {
       count = r .count - 1;
-      places = omega (arith, r .places);
+      few = omega (arith, r .few);
       rest = λ i k. r .rest (suc i) (omega arith);
       aligned = λ i k. r .aligned (suc i) (omega arith);
       some = λ i k. r .some (suc i) (omega arith);
@@ -232,12 +232,12 @@ module _ (L : Ladder) (m : MultipliesUp L) where
     more-alone (suc i) (suc j) f k l = r .alone i j f (omega arith) (omega arith)
 
     more : Regions L (suc most) (s ∷ ss) (e ∷ es)
-    more = record { count = suc (r .count); places = omega (arith, r .places); rest = more-rest; aligned = more-aligned; some = more-some; within = more-within; alone = more-alone }
+    more = record { count = suc (r .count); few = omega (arith, r .few); rest = more-rest; aligned = more-aligned; some = more-some; within = more-within; alone = more-alone }
 
   none : (most : ℕ) (ss es : List ℕ) → ((i : ℕ) → (getD ss i 0 ≡ 0) × (getD es i 0 ≡ 0)) → Regions L most ss es
   none most ss es h = record {
     count = 0;
-    places = omega arith;
+    few = omega arith;
     rest = λ i k. h i;
     aligned = λ i k. absurd (omega arith);
     some = λ i k. absurd (omega arith);

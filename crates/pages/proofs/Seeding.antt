@@ -16,16 +16,15 @@ use Rattle.model.proofs.SeedWords.{seed-words}
 use Rattle.model.specs.Frames.{Wholly}
 use Rattle.model.specs.Ladder.{fan, frames, top}
 use Rattle.model.specs.Laws.{BlockIn, Made}
-use Rattle.model.specs.SeedRoom.{openingsAfter, seedOpenings, seedRest}
+use Rattle.model.proofs.SeedRoom.{openingsAfter, seedOpenings, seedRest}
 use Rattle.model.specs.Tree.{Sound as SoundTree}
 use Rattle.model.specs.Tree.{Tree, empty, free, node, opening, openings, store}
 use Rattle.model.specs.Tree.{words as treeWords}
 use Rattle.model.specs.TreeStore.{largestFit, seedFrom}
-use Rattle.pages.specs.Nodes.{Words, storeW}
+use Rattle.pages.specs.Nodes.{Words, storeW, words}
 use Rattle.pages.specs.Room.{openingsAfterW, openingsW, path, pathAfter, seedOpeningsW, seedRestW, seedW}
 use Rattle.pages.specs.View.{block, tab, view}
 use Rattle.pages.specs.Words.{fanOutOf, hasToken, linkOf, word}
-use Rattle.pages.specs.inner.Asks.{words}
 use Rattle.pages.specs.inner.Blocks.{Child, Readable}
 use Rattle.pages.specs.inner.Check.{SoundW}
 use Rattle.pages.proofs.Kept.{Left, shape-readable, soundW-tree, storeW-sound}
@@ -133,17 +132,16 @@ module _ (L : Ladder) where
     pub sound : SoundW L (top L) (o .pool) (o .used)
     pub tree : view L (top L) (word (o .pool)) 0 ≡ seedFrom L k (view L (top L) (word p) 0) a e
     pub length : length (o .pool) ≡ length p
+    pub grows : u ≤ o .used
+    pub behind : (x : ℕ) → o .used ≤ x → word (o .pool) x ≡ word p x
 
   -- THE WORDS' SEED IS THE MODEL'S
   pub seedW-done : (k : ℕ) (p : List ℕ) (u a e m : ℕ) → suc (top L) < 8 → SoundW L (top L) p u → a + m ≡ e → e ≤ frames L (top L) → Wholly (free L (top L) (view L (top L) (word p) 0)) a m false
       → suc (treeWords (top L) (seedFrom L k (view L (top L) (word p) 0) a e)) ≤ length p → Seeded k p u a e (seedW L k (words p u) a e)
   unfolding seedW seedFrom
-  seedW-done zero p u a e m small s x y h room = record { sound = s; tree = refl; length = refl }
+  seedW-done zero p u a e m small s x y h room = record { sound = s; tree = refl; length = refl; grows = omega arith; behind = λ x h. refl }
   seedW-done (suc k) p u a e m small s x y h room₁ = go (ltb a e) refl (seedW-done k) room₁
     where
-      D : ℕ
-      D = (top L)
-
       t : Tree (top L)
       t = view L (top L) (word p) 0
 
@@ -154,8 +152,8 @@ module _ (L : Ladder) where
           → ((p : List ℕ) (u a e m : ℕ) → suc (top L) < 8 → SoundW L (top L) p u → a + m ≡ e → e ≤ frames L (top L) → Wholly (free L (top L) (view L (top L) (word p) 0)) a m false
           → suc (treeWords (top L) (seedFrom L k (view L (top L) (word p) 0) a e)) ≤ length p → Seeded k p u a e (seedW L k (words p u) a e))
           → suc (treeWords (top L) (seedFrom L (suc k) t a e)) ≤ length p → Seeded (suc k) p u a e (seedW L (suc k) (words p u) a e)
-      go false v ih room = rw (v, seedW, seedFrom) (record { sound = s; tree = rw (v, seedFrom); length = refl })
-      go true v ih room₀ = rw (v, seedW) (record { sound = r .sound; tree = r .tree ∙ ap (λ (y : Tree (top L)). seedFrom L k y (a + frames L c) e) (f .tree) ∙ rw (v, seedFrom); length = r .length ∙ f .length })
+      go false v ih room = rw (v, seedW, seedFrom) (record { sound = s; tree = rw (v, seedFrom); length = refl; grows = omega arith; behind = λ x h. refl })
+      go true v ih room₀ = rw (v, seedW) (record { sound = r .sound; tree = r .tree ∙ ap (λ (y : Tree (top L)). seedFrom L k y (a + frames L c) e) (f .tree) ∙ rw (v, seedFrom); length = r .length ∙ f .length; grows = omega (arith, r .grows, f .words); behind = λ x h. r .behind x h ∙ f .behind x (omega (arith, r .grows)) })
         where
           l : a < e
           l = ltb-true a e v
@@ -163,8 +161,8 @@ module _ (L : Ladder) where
           ok : (c ≤ top L) × (a % frames L c ≡ 0) × (a + frames L c ≤ e)
           ok = largestFit-ok L (top L) a e l
 
-          placesOf : BlockIn L (top L) c a
-          placesOf = record { deep = ok .0; aligned = ok .1; fits = omega (arith, ok) }
+          here : BlockIn L (top L) c a
+          here = record { deep = ok .0; aligned = ok .1; fits = omega (arith, ok) }
 
           bl : Wholly (free L (top L) t) a (frames L c) false
           bl f p q = h f p (omega (arith, ok))
@@ -173,10 +171,7 @@ module _ (L : Ladder) where
           so = soundW-tree L (top L) p u s .1
 
           dn : Made L (top L) c true t a (store L (top L) c t a)
-          dn = store-done L (top L) c t a so placesOf bl
-
-          t₁ : Tree (top L)
-          t₁ = store L (top L) c t a
+          dn = store-done L (top L) c t a so here bl
 
           rest : Wholly (free L (top L) (store L (top L) c t a)) (a + frames L c) (m - frames L c) false
           rest f p q = dn .0 .above f p (omega (arith, ok)) ∙ h f (omega arith) (omega (arith, ok))
@@ -188,7 +183,7 @@ module _ (L : Ladder) where
           now = omega (arith, used-store L (top L) c p u a small (s .shape) (omega (arith, l)), seed-words L k (store L (top L) c t a) (a + frames L c) e (m - frames L c) (dn .1) (omega (arith, ok)) y rest, room)
 
           f : Left L (top L) p u (storeW L (top L) c (words p u) 0 a) (store L (top L) c t a) (openingsW L (top L) c p 0 a)
-          f = storeW-sound L (top L) c p u a small s placesOf bl now
+          f = storeW-sound L (top L) c p u a small s here bl now
 
           o : Words
           o = storeW L (top L) c (words p u) 0 a

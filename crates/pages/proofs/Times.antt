@@ -46,7 +46,7 @@ module _ (L : Ladder) (p : List ℕ) where
         ∙ sym (total-open (fanOutOf L) p (λ a n. delta a x + childIn x a n) l q (ke .0) (ke .1))
   ]
 
-  times-met : (x l q : ℕ) → times L p x l q ≡ met (fanOutOf L) p x l q
+  pub times-met : (x l q : ℕ) → times L p x l q ≡ met (fanOutOf L) p x l q
   unfolding met
   times-met x l q = times-total x l q
 

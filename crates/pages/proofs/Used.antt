@@ -14,11 +14,10 @@ use Rattle.model.specs.Lists.{sum}
 use Rattle.model.specs.Tree.{Sound as SoundTree}
 use Rattle.model.specs.Tree.{Tree, largest, node, pick, remove, store}
 use Rattle.model.specs.Tree.{words as treeWords}
-use Rattle.pages.specs.Nodes.{storeW, takeW}
+use Rattle.pages.specs.Nodes.{storeW, takeW, words}
 use Rattle.pages.specs.Room.{openingsW}
 use Rattle.pages.specs.View.{block, tab, view}
 use Rattle.pages.specs.Words.{fanOutOf, hasToken, linkOf, maxOf, word, sumOver}
-use Rattle.pages.specs.inner.Asks.{words}
 use Rattle.pages.specs.inner.Blocks.{By, Child, Readable, Shape, childIn, delta, met, size}
 use Rattle.pages.specs.inner.Check.{SoundW}
 use Rattle.pages.proofs.Blocks.{size-open, size-shut}

@@ -4,9 +4,8 @@ use mathlib.Core.List.{List, [], _∷_, _++_}
 use Prim.Native.Nat.{ℕ}
 use lib.ListN.{set, replicate}
 use Rattle.sizes.specs.Six.{six}
-use Rattle.pages.specs.Nodes.{Words, Taken, storeW, takeW}
+use Rattle.pages.specs.Nodes.{Words, Taken, storeW, takeW, words}
 use Rattle.pages.specs.Room.{openingsW, pickW, seedOpeningsW, seedW}
-use Rattle.pages.specs.inner.Asks.{words}
 
 -- so many words of one value
 pub data Run : Type 0 where

@@ -1,36 +1,50 @@
 -- From words to the tree: a pool whose blocks are in order and whose nodes keep the rules of max and token holds a sound tree of the model,
 -- and what is read off its words or written to them is the model's on that tree. For any ladder of at most 7 codes: the level field has 3 bits.
 use mathlib.Core.Path.{_≡_}
+use mathlib.Core.Logic.{_⊎_}
 use mathlib.Core.Bool.{true, false}
 use mathlib.Core.List.{List}
 use Prim.Native.Nat.{ℕ, suc, _+_, _-_, _≤_, _<_}
+use lib.Dec.{eqb, ltb}
 use lib.ListN.{length}
 use Rattle.sizes.specs.Ladder.{Ladder}
+use Rattle.sizes.specs.Laws.{MultipliesUp}
 use Rattle.model.specs.Ladder.{frames, top, probes}
 use Rattle.model.specs.Frames.{Wholly, within, bit}
-use Rattle.model.specs.Tree.{Tree, largest, words as treeWords, free, Sound, openings, store, remove, pick}
+use Rattle.model.specs.Calls.{seeded}
+use Rattle.model.specs.Tree.{words as treeWords, free, Sound, openings, store, remove, pick}
 use Rattle.model.specs.TreeStore.{anyFree, seedFrom}
 use Rattle.model.specs.Laws.{BlockIn}
-use Rattle.pages.specs.Words.{word, pack, maxOf, tokenOf, levelOf, linkOf, fanOutOf}
-use Rattle.pages.specs.Nodes.{Words, storeW, takeW}
+use Rattle.pages.specs.Words.{word, pack, maxOf, tokenOf, levelOf, linkOf, framesOf}
+use Rattle.pages.specs.Nodes.{Words, words, storeW, takeW}
 use Rattle.pages.specs.Room.{openingsW, pickW, anyFreeW, seedOpeningsW, seedW}
 use Rattle.pages.specs.View.{view}
-use Rattle.pages.specs.inner.Blocks.{placesOf, Readable}
+use Rattle.pages.specs.Regions.{Regions, regionsOf}
+use Rattle.pages.specs.Sound.{Below, times, Sound as SoundStore}
+use Rattle.pages.specs.inner.Blocks.{Readable}
 use Rattle.pages.specs.inner.Check.{Marked, SoundW}
-use Rattle.pages.specs.inner.Asks.{words, Maxed}
+use Rattle.pages.specs.inner.Asks.{Maxed}
 
 -- a node word and its fields name each other
 pub record Fields : Type 0 where
   pub unpacked : (m t l k : ℕ) → m < 8 → t < 2 → l < 8 → (maxOf (pack m t l k) ≡ m) × (tokenOf (pack m t l k) ≡ t) × (levelOf (pack m t l k) ≡ l) × (linkOf (pack m t l k) ≡ k)
   pub packed : (v : ℕ) → pack (maxOf v) (tokenOf v) (levelOf v) (linkOf v) ≡ v
 
+-- the s frames from b on and the n frames from c on share none
+abbrev pub Apart : (b s c n : ℕ) → Type 0
+Apart b s c n = (b + s ≤ c) ⊎ (c + n ≤ b)
+
 module _ (L : Ladder) where
+  -- how often x is the place of the node of level d + 1 at q or stands in the blocks below it
+  abbrev pub placesIn : List ℕ → (x d q : ℕ) → ℕ
+  placesIn p x d q = bit (eqb q x) + times L p x (suc d) q
+
   -- o comes from p with u words used by a change at the node of level d + 1 at q
   pub record Changes (d : ℕ) (p : List ℕ) (u q : ℕ) (o : Words) : Type 0 where
     -- no word in use changes but the node's own and those of the blocks below it
-    pub only : (x : ℕ) → x < u → placesOf (fanOutOf L) p x (suc d) q ≡ 0 → word (o .pool) x ≡ word p x
+    pub only : (x : ℕ) → x < u → placesIn p x d q ≡ 0 → word (o .pool) x ≡ word p x
     -- the places that it has more are the new blocks', from u on
-    pub more : (x : ℕ) → placesOf (fanOutOf L) (o .pool) x (suc d) q ≡ placesOf (fanOutOf L) p x (suc d) q + bit (within u (o .used - u) x)
+    pub more : (x : ℕ) → placesIn (o .pool) x d q ≡ placesIn p x d q + bit (within u (o .used - u) x)
     pub behind : (x : ℕ) → o .used ≤ x → word (o .pool) x ≡ word p x
     pub length : length (o .pool) ≡ length p
     pub grows : u ≤ o .used
@@ -64,7 +78,19 @@ module _ (L : Ladder) where
     pub openings : (d' b : ℕ) → b < frames L d → openingsW L d d' p q b ≡ openings L d d' (view L d (word p) q) b
     pub stored-used : (d' b : ℕ) → Held d d' p u q b → storeW L d d' (words p u) q b .used ≡ u + openingsW L d d' p q b
     pub taken-used : (d' : ℕ) → Offered d d' p u q → takeW L d d' (words p u) q .words .used ≡ u + openingsW L d d' p q (pickW L d d' p q)
+    -- beside the path to the block, what lies below a node whose frames are apart from the block's stays as it is
+    pub stored-apart : (d' b m r c x : ℕ) → Held d d' p u q b → Below L p (suc d) q 0 m r c → Apart b (frames L d') c (framesOf L m) → 1 ≤ times L p x m r → word (storeW L d d' (words p u) q b .pool) x ≡ word p x
+    pub taken-apart : (d' m r c x : ℕ) → Offered d d' p u q → Below L p (suc d) q 0 m r c → Apart (pickW L d d' p q) (frames L d') c (framesOf L m) → 1 ≤ times L p x m r
+        → word (takeW L d d' (words p u) q .words .pool) x ≡ word p x
     pub any-free : (d' b : ℕ) → b < frames L d → anyFreeW L d d' p q b ≡ anyFree L d d' (view L d (word p) q) b
+
+  -- o is what a seed of the frames from a to e leaves of p with u words used
+  pub record Seeds (p : List ℕ) (u a e : ℕ) (o : Words) : Type 0 where
+    pub tree : view L (top L) (word (o .pool)) 0 ≡ seedFrom L (e - a) (view L (top L) (word p) 0) a e
+    pub sound : SoundW L (top L) (o .pool) (o .used)
+    pub used : o .used ≡ u + seedOpeningsW L (e - a) p a e
+    pub length : length (o .pool) ≡ length p
+    pub behind : (x : ℕ) → o .used ≤ x → word (o .pool) x ≡ word p x
 
   -- the laws of a pool as a whole
   pub record PoolLaws (p : List ℕ) (u : ℕ) : Type 0 where
@@ -81,10 +107,28 @@ module _ (L : Ladder) where
     pub seeded-words : (a e : ℕ) → a ≤ e → e ≤ frames L (top L) → Wholly (free L (top L) (view L (top L) (word p) 0)) a (e - a) false
         → suc (treeWords (top L) (seedFrom L (e - a) (view L (top L) (word p) 0) a e)) ≡ u + seedOpeningsW L (e - a) p a e
     pub seeded : (a e : ℕ) → a ≤ e → e ≤ frames L (top L) → Wholly (free L (top L) (view L (top L) (word p) 0)) a (e - a) false → u + seedOpeningsW L (e - a) p a e ≤ length p
-        → (view L (top L) (word (seedW L (e - a) (words p u) a e .pool)) 0 ≡ seedFrom L (e - a) (view L (top L) (word p) 0) a e)
-        × SoundW L (top L) (seedW L (e - a) (words p u) a e .pool) (seedW L (e - a) (words p u) a e .used)
+        → Seeds p u a e (seedW L (e - a) (words p u) a e)
+
+  -- every free frame of the view lies in a region
+  abbrev pub Covered : (starts ends p : List ℕ) → Type 0
+  Covered starts ends p = (f : ℕ) → f < frames L (top L) → free L (top L) (view L (top L) (word p) 0) f ≡ true → seeded (regionsOf L starts ends) f ≡ true
+
+  -- Sound as document 01 has it is: sound words, sound regions, and every free frame in one of them; storing a block of the regions, taking one and seeding keep it
+  pub record SoundLaws (most limit : ℕ) (starts ends : List ℕ) : Type 0 where
+    pub words-of : (p : List ℕ) (u : ℕ) → SoundStore L ltb most limit u starts ends p → SoundW L (top L) p u × Regions L most starts ends × (length p ≤ limit) × Covered starts ends p
+    pub of-words : (p : List ℕ) (u : ℕ) → SoundW L (top L) p u → Regions L most starts ends → length p ≤ limit → Covered starts ends p → SoundStore L ltb most limit u starts ends p
+    pub stored : (p : List ℕ) (u d' b : ℕ) → SoundStore L ltb most limit u starts ends p → Held (top L) d' p u 0 b → Wholly (seeded (regionsOf L starts ends)) b (frames L d') true
+        → SoundStore L ltb most limit (storeW L (top L) d' (words p u) 0 b .used) starts ends (storeW L (top L) d' (words p u) 0 b .pool)
+    pub taken : (p : List ℕ) (u d' : ℕ) → SoundStore L ltb most limit u starts ends p → Offered (top L) d' p u 0
+        → SoundStore L ltb most limit (takeW L (top L) d' (words p u) 0 .words .used) starts ends (takeW L (top L) d' (words p u) 0 .words .pool)
+    -- the regions behind the seed hold those before it and the frames seeded
+    pub seeded : (p : List ℕ) (u a e : ℕ) (starts' ends' : List ℕ) → SoundStore L ltb most limit u starts ends p → a ≤ e → e ≤ frames L (top L) → Wholly (free L (top L) (view L (top L) (word p) 0)) a (e - a) false
+        → u + seedOpeningsW L (e - a) p a e ≤ length p → length starts' ≡ most → length ends' ≡ most → Regions L most starts' ends'
+        → ((f : ℕ) → seeded (regionsOf L starts ends) f ≡ true → seeded (regionsOf L starts' ends') f ≡ true) → Wholly (seeded (regionsOf L starts' ends')) a (e - a) true
+        → SoundStore L ltb most limit (seedW L (e - a) (words p u) a e .used) starts' ends' (seedW L (e - a) (words p u) a e .pool)
 
   -- what is proved, for a ladder of at most 7 codes
   pub record Laws : Type 0 where
+    pub sound : MultipliesUp L → suc (top L) < 8 → (most limit : ℕ) (starts ends : List ℕ) → length starts ≡ most → length ends ≡ most → SoundLaws most limit starts ends
     pub nodes : (d : ℕ) (p : List ℕ) (u q : ℕ) → suc d < 8 → Readable L d p u q → Marked L d p q → NodeLaws d p u q
     pub pools : (p : List ℕ) (u : ℕ) → suc (top L) < 8 → SoundW L (top L) p u → PoolLaws p u

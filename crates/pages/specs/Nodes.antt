@@ -15,6 +15,9 @@ pub record Words : Type 0 where
   pub pool : List ℕ
   pub used : ℕ
 
+abbrev pub words : List ℕ → (used : ℕ) → Words
+words p u = record { pool = p; used = u }
+
 -- a node's word with other marks: m is its max, and 8 more with a token
 abbrev pub withMarks : (m v : ℕ) → ℕ
 withMarks m v = v / 16 * 16 + m

@@ -17,14 +17,14 @@ module _ (L : Ladder) where
   -- region places are filled from the first without a gap and all behind them are zero; regions are page-aligned, not empty, end at or below the largest block's end and share no frame
   pub record Regions (most : ℕ) (starts ends : List ℕ) : Type 0 where
     pub count : ℕ
-    pub places : count ≤ most
+    pub few : count ≤ most
     pub rest : (i : ℕ) → count ≤ i → (getD starts i 0 ≡ 0) × (getD ends i 0 ≡ 0)
     pub aligned : (i : ℕ) → i < count → (getD starts i 0 % bytes L smallest ≡ 0) × (getD ends i 0 % bytes L smallest ≡ 0)
     pub some : (i : ℕ) → i < count → getD starts i 0 < getD ends i 0
     pub within : (i : ℕ) → i < count → getD ends i 0 ≤ bytes L (largest L)
     pub alone : (i j f : ℕ) → i < j → j < count → Holds (getD starts i 0) (getD ends i 0) f → Holds (getD starts j 0) (getD ends j 0) f → ⊥
 
-  -- the regions in frames, in seeding order: the places before the first whose end is 0
+  -- the regions in frames, in seeding order: the places before the first whose end is 0; of a sound state these are all
   unfoldable pub regionsOf : (starts ends : List ℕ) → List Region
   regionsOf [] es = []
   regionsOf (s ∷ ss) [] = []

@@ -48,7 +48,7 @@ sumOver a zero f = 0
 sumOver a (suc n) f = f a + sumOver (suc a) n f
 
 module _ (L : Ladder) where
-  -- how many children a node of a level has, and how many frames
+  -- how many children a node of a level has, and how many frames. A node of level 1 has none in a sound pool; its number here is that of `model/specs/Ladder`
   abbrev pub fanOutOf : ℕ → ℕ
   fanOutOf zero = 0
   fanOutOf (suc d) = fan L d

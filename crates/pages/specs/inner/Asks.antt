@@ -6,16 +6,12 @@ use lib.ListN.{length}
 use Rattle.sizes.specs.Ladder.{Ladder}
 use Rattle.sizes.specs.Six.{six, mostCode}
 use Rattle.model.specs.Ladder.{frames}
-use Rattle.model.specs.Tree.{largest, Sound, pick}
+use Rattle.model.specs.Tree.{largest, Sound as SoundTree, pick}
 use Rattle.pages.specs.Limits.{poolLimit}
 use Rattle.pages.specs.Words.{word, maxOf, linkOf, fanOutOf}
-use Rattle.pages.specs.Nodes.{Words}
 use Rattle.pages.specs.Room.{openingsW}
 use Rattle.pages.specs.View.{view}
 use Rattle.pages.specs.inner.Blocks.{Child, Readable}
-
-abbrev pub words : List ℕ → (used : ℕ) → Words
-words p u = record { pool = p; used = u }
 
 -- each max at and below the node at q is the largest block of its tree
 abbrev pub Maxed : Ladder → (d : ℕ) → List ℕ → (q : ℕ) → Type 0
@@ -55,7 +51,7 @@ pub record TakeAsk (level code : ℕ) (p : List ℕ) (u q : ℕ) : Type 0 where
   pub hi : level ≤ mostCode
   pub cap : length p ≤ poolLimit
   pub readable : Readable six (pred level) p u q
-  pub sound : Sound six (pred level) (view six (pred level) (word p) q)
+  pub sound : SoundTree six (pred level) (view six (pred level) (word p) q)
   pub maxed : Maxed six (pred level) p q
   pub offers : suc (pred code) ≤ largest (pred level) (view six (pred level) (word p) q)
   pub room : u + openingsW six (pred level) (pred code) p q (pick six (pred level) (pred code) (view six (pred level) (word p) q)) ≤ length p
@@ -67,7 +63,7 @@ pub record PickAsk (level code : ℕ) (p : List ℕ) (q : ℕ) : Type 0 where
   pub hi : level ≤ mostCode
   pub used : ℕ
   pub readable : Readable six (pred level) p used q
-  pub sound : Sound six (pred level) (view six (pred level) (word p) q)
+  pub sound : SoundTree six (pred level) (view six (pred level) (word p) q)
   pub maxed : Maxed six (pred level) p q
   pub offers : suc (pred code) ≤ largest (pred level) (view six (pred level) (word p) q)
 

@@ -8,8 +8,7 @@ use mathlib.Core.Path.{_≡_, refl, sym, ap, ap₂, _∙_, subst}
 use lib.ListN.{length}
 use Rattle.sizes.specs.Six.{six}
 use Rattle.pages.specs.Words.{fanOutOf, firstChild}
-use Rattle.pages.specs.Nodes.{Taken, markW, refreshW, takeW, childrenFirst}
-use Rattle.pages.specs.inner.Asks.{words}
+use Rattle.pages.specs.Nodes.{Taken, markW, refreshW, takeW, childrenFirst, words}
 use Rattle.pages.proofs.AskTake.{taken, take-here, take-open, take-run, take-look, TakeDown, take-down-at}
 use Rattle.pages.proofs.SeedNeed.{frames-below}
 use borrow.Fn.Kinds.{In}

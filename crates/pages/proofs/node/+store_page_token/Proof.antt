@@ -8,8 +8,7 @@ use mathlib.Core.Path.{_≡_, sym, ap, _∙_, subst}
 use lib.ListN.{set}
 use Rattle.sizes.specs.Six.{six}
 use Rattle.pages.specs.Words.{word}
-use Rattle.pages.specs.Nodes.{Words, withMarks, markW, storeW}
-use Rattle.pages.specs.inner.Asks.{words}
+use Rattle.pages.specs.Nodes.{Words, withMarks, markW, storeW, words}
 use Rattle.pages.proofs.Ask.{open-ask, store-here, Down, store-down-at}
 use Rattle.pages.proofs.SeedNeed.{frames-below}
 use borrow.Fn.Kinds.{In}
