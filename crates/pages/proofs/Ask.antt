@@ -15,7 +15,7 @@ use Rattle.model.proofs.Ladder.{frames-pos}
 use Rattle.model.specs.Ladder.{fan, frames}
 use Rattle.pages.specs.Nodes.{Words, childrenAll, childrenMax, handIf, handW, mapRun, markW, mergeIf, mergeW, openIf, openW, openWith, refreshW, storeW, withMarks, words}
 use Rattle.pages.specs.Room.{openingsW}
-use Rattle.pages.specs.Words.{fanOutOf, firstChild, linkOf, pack, run, word}
+use Rattle.pages.specs.Words.{fanOutOf, firstChild, linkOf, pack, word}
 use Rattle.pages.specs.inner.Asks.{OpenAsk, RunAsk, StoreAsk}
 use Rattle.pages.specs.inner.Blocks.{Child, Readable}
 use Rattle.pages.proofs.Max.{run-fits}
@@ -30,7 +30,7 @@ new-child : (l : ℕ) → pack 0 0 l 0 ≡ 16 * l
 unfolding pack
 new-child l = omega arith
 
-pub new-link : (u : ℕ) → pack 0 0 0 u ≡ 128 * u
+new-link : (u : ℕ) → pack 0 0 0 u ≡ 128 * u
 unfolding pack
 new-link u = omega arith
 

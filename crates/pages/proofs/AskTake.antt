@@ -11,11 +11,11 @@ use Rattle.sizes.specs.Ladder.{code, fanOut}
 use Rattle.sizes.specs.Six.{six}
 use Rattle.model.proofs.Free.{pick-lowest}
 use Rattle.model.proofs.Ladder.{frames-pos}
-use Rattle.model.specs.Ladder.{fan, frames, probes}
+use Rattle.model.specs.Ladder.{fan, frames}
 use Rattle.model.specs.Tree.{pick}
 use Rattle.pages.specs.Nodes.{Taken, Words, childrenFirst, handW, markW, openW, refreshW, takeW, words}
 use Rattle.pages.specs.View.{view}
-use Rattle.pages.specs.Words.{fanOutOf, firstChild, linkOf, run, word}
+use Rattle.pages.specs.Words.{fanOutOf, firstChild, linkOf, word}
 use Rattle.pages.specs.inner.Asks.{OpenAsk, RunAsk, TakeAsk}
 use Rattle.pages.specs.inner.Blocks.{size}
 use Rattle.pages.proofs.Max.{run-fits}

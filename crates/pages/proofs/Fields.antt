@@ -25,7 +25,8 @@ use Rattle.pages.proofs.Blocks.{ok-level, ok-make, ok-open, ok-shut, ze
 use Rattle.pages.proofs.Cover.{covers}
 use Rattle.pages.proofs.Needed.{sees-level}
 use Rattle.pages.proofs.Nodes.{RuleAt, below-at, below-sees, below-trans}
-use Rattle.pages.proofs.Quiet.{all-none, all-open, children-zero, max-open, max-shut, node-ok, node-pos, off-rule, on-rule, quiet-below, rule-off, rule-on, token-is}
+use Rattle.pages.proofs.Marks.{off-rule, on-rule, rule-off, rule-on, token-is}
+use Rattle.pages.proofs.Quiet.{all-none, all-open, children-zero, max-open, max-shut, node-ok, node-pos, quiet-below}
 use Rattle.pages.proofs.Regions.{regions-fit, regions-if, regions-of}
 use Rattle.pages.proofs.Times.{filled-low, filled-of, filled-once}
 

@@ -11,16 +11,14 @@ use native.Mathlib.Omega.{arith}
 use lib.Dec.{ltb}
 use lib.ListN.{length}
 use borrow.Author.Tests.{eqb-true, eqb-false}
-use Rattle.sizes.specs.Ladder.{Ladder, fanOut, largest as largest-code}
-use Rattle.sizes.specs.Six.{six, mostCode}
+use Rattle.sizes.specs.Ladder.{Ladder}
 use Rattle.model.proofs.Count.{freeFrames-count}
 use Rattle.model.proofs.Frames.{bit-le}
 use Rattle.model.specs.Frames.{bit, count}
-use Rattle.model.specs.Ladder.{fan, frames, top}
+use Rattle.model.specs.Ladder.{fan, frames}
 use Rattle.model.specs.Lists.{maximum, sum}
 use Rattle.model.specs.Tree.{Sound as SoundTree}
 use Rattle.model.specs.Tree.{SoundNode, Tree, empty, free, freeFrames, largest, node}
-use Rattle.pages.specs.Limits.{mostFrames}
 use Rattle.pages.specs.Room.{tokensIn}
 use Rattle.pages.specs.View.{block, tab, view}
 use Rattle.pages.specs.Words.{fanOutOf, framesOf, hasToken, levelOf, linkOf, tokenOf, word, sumOver}
@@ -33,14 +31,9 @@ use Rattle.pages.proofs.Lists.{run-tab}
 use Rattle.pages.proofs.Needed.{Block, back, met-block, met-place, sees-level}
 use Rattle.pages.proofs.Sums.{sum-add, sum-cong, sum-mul, sum-split, sum-zero}
 use Rattle.pages.proofs.Tree.{tab-at}
+use Rattle.pages.proofs.Used.{sum-tab}
 
 -- ---- sums
-
--- a sum along a table is one over its numbers
-sum-tab : {A : Type 0} (g : A → ℕ) (f : ℕ → A) (a n : ℕ) → sum g (tab f a n) ≡ sumOver a n (λ x. g (f x))
-unfolding sum tab sumOver
-sum-tab g f a zero = refl
-sum-tab g f a (suc n) = ap (λ (t : ℕ). g (f a) + t) (sum-tab g f (suc a) n)
 
 tokens-sum : (p : List ℕ) (a n : ℕ) → a + n ≤ length p → tokensIn p a n ≡ sumOver a n (λ x. tokenOf (word p x))
 unfolding tokensIn
@@ -334,16 +327,3 @@ module _ (L : Ladder) (d : ℕ) (p : List ℕ) (used : ℕ) where
           counts = adds;
           most = counted (c + t * f) (left (fanOutOf L) p (suc d) used (weight L p) (s + 1 + n)) adds;
         }
-
--- the largest block's frames
-pub frames-six : frames six (top six) ≡ mostFrames
-unfolding frames fan fanOut top largest-code
-frames-six = refl
-
-pub top-six : suc (top six) ≡ mostCode
-unfolding top largest-code
-top-six = refl
-
-pub root-frames : (root : ℕ) → root ≡ largest-code six → framesOf six root ≡ frames six (top six)
-unfolding top largest-code
-root-frames root e = ap (framesOf six) e

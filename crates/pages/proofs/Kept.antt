@@ -1,14 +1,14 @@
 -- Sound words: the blocks are in order and each node keeps the rules of max and token. Such a pool holds a sound tree, each node's max is the largest block of its tree, and a store and an acquire leave the words sound. Assumes nothing.
-use mathlib.Core.Bool.{Bool, true, false, not, true≢false, false≢true}
+use mathlib.Core.Bool.{Bool, true, false, true≢false, false≢true}
 use mathlib.Core.List.{List, []}
 use mathlib.Core.Logic.{_⊎_, inl, inr}
 use mathlib.Core.Path.{_≡_, refl, sym, ap, _∙_, subst}
-use Prim.Native.Nat.{ℕ, zero, suc, _+_, _-_, _/_, _%_, _≤_, _<_, max}
+use Prim.Native.Nat.{ℕ, zero, suc, _+_, _-_, _≤_, _<_}
 use native.Mathlib.Decide.{decLt, ℕ-discrete}
 use native.Mathlib.Omega.{arith}
 use lib.Dec.{ltb}
 use lib.ListN.{length, List·getD-eq-default}
-use borrow.Author.Tests.{eq-eqb, ne-eqb, eqb-true, eqb-false}
+use borrow.Author.Tests.{eq-eqb, eqb-true}
 use Rattle.sizes.specs.Ladder.{Ladder}
 use Rattle.model.proofs.Change.{remove-done, sound-empty, store-done, token-empty}
 use Rattle.model.proofs.Free.{largest-child, pick-lowest}
@@ -18,7 +18,6 @@ use Rattle.model.specs.Frames.{Wholly}
 use Rattle.model.specs.Ladder.{fan, frames, probes}
 use Rattle.model.specs.Laws.{BlockIn}
 use Rattle.model.specs.Lists.{all, maximum}
-use Rattle.model.specs.Rust.{ok}
 use Rattle.model.specs.Tree.{Sound as SoundTree}
 use Rattle.model.specs.Tree.{SoundNode, Tree, child, empty, free, largest, node, pick, remove, store, token}
 use Rattle.pages.specs.Nodes.{Words, childrenAll, childrenMax, storeW, takeW}
@@ -29,42 +28,14 @@ use Rattle.pages.specs.inner.Asks.{Maxed}
 use Rattle.pages.specs.inner.Blocks.{By, Child, Readable, Shape, delta, met, placesOf}
 use Rattle.pages.specs.inner.Check.{Marked, Rule, SoundW, allBelow, marksPass, maxBelow}
 use Rattle.pages.proofs.Blocks.{delta-other, ok-open, zeroOr}
-use Rattle.pages.proofs.Cover.{and-intro, and-true}
 use Rattle.pages.proofs.Lists.{run-tab}
-use Rattle.pages.proofs.Marks.{mark-bare, mark-token}
+use Rattle.pages.proofs.Marks.{no-token, off-rule, on-rule, rule-off, rule-on, token-is, token-none}
 use Rattle.pages.proofs.Max.{ChildrenMaxed, max-tab, maxed-own}
 use Rattle.pages.proofs.Places.{sep-root}
 use Rattle.pages.proofs.Step.{Step, new, new-in, new-low, readable-child, readable-pos, step-readable}
 use Rattle.pages.proofs.Store.{storeW-done}
 use Rattle.pages.proofs.Take.{takeW-done}
 use Rattle.pages.proofs.Tree.{all-view, tab-at, tab-length}
-
--- what the rules say, by the token
-pub record Bare (v l m : ℕ) (a : Bool) : Type 0 where
-  pub off : hasToken v ≡ false
-  pub max : maxOf v ≡ m
-  pub some : a ≡ false
-
-pub record Token (v l m : ℕ) : Type 0 where
-  pub on : hasToken v ≡ true
-  pub max : maxOf v ≡ l
-  pub none : m ≡ 0
-
-not-t : (a : Bool) → not a ≡ true → a ≡ false
-not-t true e = absurd (false≢true e)
-not-t false e = refl
-
-rule-cases : (l v m : ℕ) (a : Bool) → marksPass l v m a ≡ true → Bare v l m a ⊎ Token v l m
-rule-cases l v m a h = elim (ℕ-discrete (tokenOf v) 0) [
-  | yes e ↦ let b = and-true (sym (mark-bare l v m a e) ∙ h) in inl (record { off = ne-eqb (v / 8 % 2) 1 (λ z. omega arith); max = eqb-true (maxOf v) m (b .0); some = not-t a (b .1) })
-  | no e ↦ let b = and-true (sym (mark-token l v m a e) ∙ h) in inr (record { on = eq-eqb (v / 8 % 2) 1 (omega arith); max = eqb-true (maxOf v) l (b .0); none = eqb-true m 0 (b .1) })
-]
-
-rule-bare : (l v m : ℕ) (a : Bool) → hasToken v ≡ false → maxOf v ≡ m → a ≡ false → marksPass l v m a ≡ true
-rule-bare l v m a t e f = mark-bare l v m a (let ne = eqb-false (v / 8 % 2) 1 t in omega (arith, ne)) ∙ and-intro (eq-eqb (maxOf v) m e) (ap not f)
-
-rule-token : (l v m : ℕ) (a : Bool) → hasToken v ≡ true → maxOf v ≡ l → m ≡ 0 → marksPass l v m a ≡ true
-rule-token l v m a t e f = mark-token l v m a (λ z. omega (arith, eqb-true (v / 8 % 2) 1 t)) ∙ and-intro (eq-eqb (maxOf v) l e) (eq-eqb m 0 f)
 
 module _ (L : Ladder) where
   -- a node that offers nothing has no token
@@ -112,20 +83,24 @@ module _ (L : Ladder) where
 
     node-sound : ((y : ℕ) → Child (fanOutOf L) p (suc d) q y → SoundTree L d (view L d (word p) y)) → ChildrenMaxed L d p q → Rule L (suc d) p q → (maxOf (word p q) ≡ largest (suc d) (node (hasToken (word p q)) ks)) × SoundNode L d (SoundTree L d) (hasToken (word p q)) ks
     unfolding ks largest
-    node-sound s m r = elim (rule-cases (suc (suc d)) (word p q) (childrenMax p (suc (suc k)) (fan L (suc d))) (childrenAll p (suc (suc k)) (fan L (suc d))) (rule-open r)) [
-      | inl b ↦ let x = all-false (token d) ks (empty d) (sym all-is ∙ b .some) in rw (b .off) (
-        b .max ∙ max-is m,
-        record { shape = inr (tab-length (view L d (word p)) (suc (suc k)) (fan L (suc d))); children = children; quiet = λ e. absurd (false≢true e); gap = (x .0, omega (arith, x .1, tab-length (view L d (word p)) (suc (suc k)) (fan L (suc d))), x .2) },
-      )
-      | inr t ↦ rw (t .on) (
-        t .max,
-        record {
-          shape = inr (tab-length (view L d (word p)) (suc (suc k)) (fan L (suc d)));
-          children = children;
-          quiet = λ e. sym (max-is m) ∙ t .none;
-          gap = (0, fan-pos L d, quiet-tok d (child d ks 0) (omega (arith, largest-child d ks 0, max-is m, t .none)));
-        },
-      )
+    node-sound s m r = elim (ℕ-discrete (tokenOf (word p q)) 0) [
+      | yes e ↦
+          let b = rule-off (suc (suc d)) (word p q) (childrenMax p (suc (suc k)) (fan L (suc d))) (childrenAll p (suc (suc k)) (fan L (suc d))) (rule-open r) e in
+          let x = all-false (token d) ks (empty d) (sym all-is ∙ b .1) in rw (no-token (word p q) e) (
+            b .0 ∙ max-is m,
+            record { shape = inr (tab-length (view L d (word p)) (suc (suc k)) (fan L (suc d))); children = children; quiet = λ e. absurd (false≢true e); gap = (x .0, omega (arith, x .1, tab-length (view L d (word p)) (suc (suc k)) (fan L (suc d))), x .2) },
+          )
+      | no e ↦
+          let o = token-is (word p q) e in
+          let t = rule-on (suc (suc d)) (word p q) (childrenMax p (suc (suc k)) (fan L (suc d))) (childrenAll p (suc (suc k)) (fan L (suc d))) (rule-open r) o in rw (eq-eqb (tokenOf (word p q)) 1 o) (
+            t .0,
+            record {
+              shape = inr (tab-length (view L d (word p)) (suc (suc k)) (fan L (suc d)));
+              children = children;
+              quiet = λ e. sym (max-is m) ∙ t .1;
+              gap = (0, fan-pos L d, quiet-tok d (child d ks 0) (omega (arith, largest-child d ks 0, max-is m, t .1)));
+            },
+          )
     ]
       where
         children : (i : ℕ) → SoundTree L d (child d ks i)
@@ -139,8 +114,8 @@ module _ (L : Ladder) where
     node-rule m e s = open-rule (go (hasToken (word p q)) refl e s)
       where
         go : (v : Bool) → hasToken (word p q) ≡ v → maxOf (word p q) ≡ largest (suc d) (node v ks) → SoundNode L d (SoundTree L d) v ks → marksPass (suc (suc d)) (word p q) (childrenMax p (suc (suc k)) (fan L (suc d))) (childrenAll p (suc (suc k)) (fan L (suc d))) ≡ true
-        go true t e s = rule-token (suc (suc d)) (word p q) (childrenMax p (suc (suc k)) (fan L (suc d))) (childrenAll p (suc (suc k)) (fan L (suc d))) t e (max-is m ∙ s .quiet refl)
-        go false t e s = rule-bare (suc (suc d)) (word p q) (childrenMax p (suc (suc k)) (fan L (suc d))) (childrenAll p (suc (suc k)) (fan L (suc d))) t (e ∙ sym (max-is m)) (all-is ∙ not-all (all (token d) ks) refl)
+        go true t e s = on-rule (suc (suc d)) (word p q) (childrenMax p (suc (suc k)) (fan L (suc d))) (childrenAll p (suc (suc k)) (fan L (suc d))) (eqb-true (tokenOf (word p q)) 1 t) e (max-is m ∙ s .quiet refl)
+        go false t e s = off-rule (suc (suc d)) (word p q) (childrenMax p (suc (suc k)) (fan L (suc d))) (childrenAll p (suc (suc k)) (fan L (suc d))) (token-none (word p q) t) (e ∙ sym (max-is m)) (all-is ∙ not-all (all (token d) ks) refl)
           where
             not-all : (a : Bool) → all (token d) ks ≡ a → a ≡ false
             not-all false x = refl
@@ -158,15 +133,18 @@ module _ (L : Ladder) where
 
   leaf-is : (p : List ℕ) (q : ℕ) → marksPass 1 (word p q) 0 false ≡ true → maxOf (word p q) ≡ largest 0 (view L 0 (word p) q)
   unfolding largest view
-  leaf-is p q r = elim (rule-cases 1 (word p q) 0 false r) [ inl b ↦ rw (b .off) (b .max) | inr t ↦ rw (t .on) (t .max) ]
+  leaf-is p q r = elim (ℕ-discrete (tokenOf (word p q)) 0) [
+    | yes e ↦ rw (no-token (word p q) e) (rule-off 1 (word p q) 0 false r e .0)
+    | no e ↦ let o = token-is (word p q) e in rw (eq-eqb (tokenOf (word p q)) 1 o) (rule-on 1 (word p q) 0 false r o .0)
+  ]
 
   leaf-rule : (p : List ℕ) (q : ℕ) → maxOf (word p q) ≡ largest 0 (view L 0 (word p) q) → marksPass 1 (word p q) 0 false ≡ true
   unfolding largest view
   leaf-rule p q e = go (hasToken (word p q)) refl e
     where
       go : (v : Bool) → hasToken (word p q) ≡ v → maxOf (word p q) ≡ largest 0 v → marksPass 1 (word p q) 0 false ≡ true
-      go true t e = rule-token 1 (word p q) 0 false t e refl
-      go false t e = rule-bare 1 (word p q) 0 false t e refl
+      go true t e = on-rule 1 (word p q) 0 false (eqb-true (tokenOf (word p q)) 1 t) e refl
+      go false t e = off-rule 1 (word p q) 0 false (token-none (word p q) t) e refl
 
   pub marked-sound : (d : ℕ) (p : List ℕ) (u q : ℕ) → Readable L d p u q → Marked L d p q → Maxed L d p q × SoundTree L d (view L d (word p) q)
   unfolding largest view maximum ks
@@ -177,9 +155,10 @@ module _ (L : Ladder) where
           → Maxed L (suc d) p q × SoundTree L (suc d) (view L (suc d) (word p) q)
       go (inl z) ih =
           let no-child : (y : ℕ) → Child (fanOutOf L) p (suc d) q y → Maxed L d p y = λ y c. ih y c .0 in
-          rw z (elim (rule-cases (suc (suc d)) (word p q) 0 false (rule-shut (suc d) p q z (m .0))) [
-            | inl b ↦ rw (b .off) ((b .max, no-child), record { shape = inl refl; children = λ i. sound-empty L d; quiet = λ e. refl; gap = (0, fan-pos L d, token-empty d) })
-            | inr t ↦ rw (t .on) ((t .max, no-child), record { shape = inl refl; children = λ i. sound-empty L d; quiet = λ e. refl; gap = (0, fan-pos L d, token-empty d) })
+          let r = rule-shut (suc d) p q z (m .0) in
+          rw z (elim (ℕ-discrete (tokenOf (word p q)) 0) [
+            | yes e ↦ rw (no-token (word p q) e) ((rule-off (suc (suc d)) (word p q) 0 false r e .0, no-child), record { shape = inl refl; children = λ i. sound-empty L d; quiet = λ e. refl; gap = (0, fan-pos L d, token-empty d) })
+            | no e ↦ let o = token-is (word p q) e in rw (eq-eqb (tokenOf (word p q)) 1 o) ((rule-on (suc (suc d)) (word p q) 0 false r o .0, no-child), record { shape = inl refl; children = λ i. sound-empty L d; quiet = λ e. refl; gap = (0, fan-pos L d, token-empty d) })
           ])
       go (inr ke) ih =
           let r = node-sound d p u q (ke .0) g (ke .1) (λ y c. ih y c .1) (λ y c. ih y c .0) (m .0) in
@@ -195,8 +174,8 @@ module _ (L : Ladder) where
       go zero e x s ih = (shut-rule (suc d) p q e (at (hasToken (word p q)) refl x), λ y c. absurd (omega (arith, c .link)))
         where
           at : (v : Bool) → hasToken (word p q) ≡ v → maxOf (word p q) ≡ largest (suc d) (node v []) → marksPass (suc (suc d)) (word p q) 0 false ≡ true
-          at true t x = rule-token (suc (suc d)) (word p q) 0 false t x refl
-          at false t x = rule-bare (suc (suc d)) (word p q) 0 false t x refl
+          at true t x = on-rule (suc (suc d)) (word p q) 0 false (eqb-true (tokenOf (word p q)) 1 t) x refl
+          at false t x = off-rule (suc (suc d)) (word p q) 0 false (token-none (word p q) t) x refl
       go (suc k) e x s ih = (
         node-rule d p u q k g e (m .1) x s,
         λ y c.

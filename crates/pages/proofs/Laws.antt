@@ -8,13 +8,12 @@ use lib.Dec.{leb, ltb, eqb}
 use lib.ListN.{length}
 use Rattle.sizes.specs.Ladder.{Ladder}
 use Rattle.model.proofs.Ladder.{frames-pos}
-use Rattle.model.specs.Calls.{seeded, stored}
 use Rattle.model.specs.Frames.{Wholly, bit, within}
 use Rattle.model.specs.Ladder.{frames, probes, top}
 use Rattle.model.specs.Tree.{Sound as SoundTree}
-use Rattle.model.specs.Tree.{Tree, free, largest, openings, pick, remove}
+use Rattle.model.specs.Tree.{Tree, free, largest, pick, remove}
 use Rattle.model.specs.Tree.{words as treeWords}
-use Rattle.model.specs.TreeStore.{picked, seedFrom}
+use Rattle.model.specs.TreeStore.{seedFrom}
 use Rattle.pages.specs.Laws.{Apart, Changes, Held, Laws, NodeLaws, Offered, PoolLaws, Seeds, placesIn}
 use Rattle.pages.specs.Nodes.{Words, storeW, takeW, words}
 use Rattle.pages.specs.Room.{openingsW, pickW, seedOpeningsW, seedW}
@@ -24,7 +23,6 @@ use Rattle.pages.specs.inner.Asks.{Maxed}
 use Rattle.pages.specs.inner.Blocks.{Readable, delta, placesOf}
 use Rattle.pages.specs.inner.Check.{Marked, SoundW}
 use Rattle.pages.proofs.AnyFree.{anyFreeW-is}
-use Rattle.pages.proofs.AskTake.{taken}
 use Rattle.pages.proofs.Kept.{marked-sound, shape-readable, storeW-sound, takeW-sound}
 use Rattle.pages.proofs.Max.{maxed-own}
 use Rattle.pages.proofs.Pick.{pickW-is}

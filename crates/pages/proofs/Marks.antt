@@ -2,16 +2,19 @@
 use mathlib.Core.Bool.{Bool, true, false, not, _&&_}
 use mathlib.Core.List.{List}
 use mathlib.Core.Logic.{inl, inr}
-use mathlib.Core.Path.{_≡_, refl, ap, _∙_}
+use mathlib.Core.Path.{_≡_, refl, sym, ap, _∙_}
 use Prim.Native.Nat.{ℕ, zero, suc, _+_}
+use native.Mathlib.Decide.{ℕ-discrete}
 use native.Mathlib.Omega.{arith}
 use lib.Dec.{eqb}
+use borrow.Author.Tests.{eq-eqb, ne-eqb, eqb-true, eqb-false, not-true}
 use Rattle.model.specs.Calls.{Region}
 use Rattle.model.specs.TreeStore.{covered}
 use Rattle.pages.specs.Nodes.{childrenAll, childrenMax}
-use Rattle.pages.specs.Words.{linkOf, maxOf, tokenOf, word}
+use Rattle.pages.specs.Words.{hasToken, linkOf, maxOf, tokenOf, word}
 use Rattle.pages.specs.inner.Check.{allBelow, inRegions, marksPass, maxBelow, passes}
 use Rattle.pages.proofs.Blocks.{zeroOr}
+use Rattle.pages.proofs.Cover.{and-intro, and-true}
 
 pub mark-bare : (l v m : ℕ) (a : Bool) → tokenOf v ≡ 0 → marksPass l v m a ≡ (eqb (maxOf v) m && not a)
 unfolding marksPass
@@ -29,6 +32,29 @@ mark-token l v m a e = go (tokenOf v) e
     go zero e = absurd (e refl)
     go (suc k) e = refl
 
+-- ---- the rules at one node, by its token
+pub rule-off : (l v m : ℕ) (a : Bool) → marksPass l v m a ≡ true → tokenOf v ≡ 0 → (maxOf v ≡ m) × (a ≡ false)
+rule-off l v m a h e = let b = and-true (sym (mark-bare l v m a e) ∙ h) in (eqb-true (maxOf v) m (b .0), not-true a (b .1))
+
+pub rule-on : (l v m : ℕ) (a : Bool) → marksPass l v m a ≡ true → tokenOf v ≡ 1 → (maxOf v ≡ l) × (m ≡ 0)
+rule-on l v m a h e = let b = and-true (sym (mark-token l v m a (λ z. omega arith)) ∙ h) in (eqb-true (maxOf v) l (b .0), eqb-true m 0 (b .1))
+
+pub off-rule : (l v m : ℕ) (a : Bool) → tokenOf v ≡ 0 → maxOf v ≡ m → a ≡ false → marksPass l v m a ≡ true
+off-rule l v m a e h f = mark-bare l v m a e ∙ and-intro (eq-eqb (maxOf v) m h) (ap not f)
+
+pub on-rule : (l v m : ℕ) (a : Bool) → tokenOf v ≡ 1 → maxOf v ≡ l → m ≡ 0 → marksPass l v m a ≡ true
+on-rule l v m a e h f = mark-token l v m a (λ z. omega arith) ∙ and-intro (eq-eqb (maxOf v) l h) (eq-eqb m 0 f)
+
+pub token-is : (v : ℕ) → (tokenOf v ≡ 0 → ⊥) → tokenOf v ≡ 1
+token-is v h = elim (ℕ-discrete (tokenOf v) 0) [ yes e ↦ absurd (h e) | no e ↦ omega arith ]
+
+pub token-none : (v : ℕ) → hasToken v ≡ false → tokenOf v ≡ 0
+token-none v e = let ne = eqb-false (tokenOf v) 1 e in omega (arith, ne)
+
+pub no-token : (v : ℕ) → tokenOf v ≡ 0 → hasToken v ≡ false
+no-token v e = ne-eqb (tokenOf v) 1 (λ z. omega arith)
+
+-- ---- the regions at one node, by its token
 pub regions-bare : (rs : List Region) (v b n : ℕ) → tokenOf v ≡ 0 → inRegions rs v b n ≡ true
 unfolding inRegions
 regions-bare rs v b n e = go (tokenOf v) e

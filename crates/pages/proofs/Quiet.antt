@@ -1,5 +1,5 @@
 -- The rules of max and token at every node, and what the fields of Sound say of tokens: each follows from the other. Assumes nothing.
-use mathlib.Core.Bool.{Bool, true, false, not}
+use mathlib.Core.Bool.{true, false}
 use mathlib.Core.List.{List}
 use mathlib.Core.Path.{_≡_, refl, sym, ap, _∙_}
 use Prim.Native.Nat.{ℕ, zero, suc, _+_, _≤_, _<_}
@@ -7,7 +7,6 @@ use native.Mathlib.Decide.{ℕ-discrete}
 use native.Mathlib.Omega.{arith}
 use lib.Dec.{ltb}
 use lib.ListN.{length}
-use borrow.Author.Tests.{eq-eqb, eqb-true, not-true}
 use Rattle.sizes.specs.Ladder.{Ladder}
 use Rattle.model.specs.Calls.{Region}
 use Rattle.model.specs.Ladder.{top}
@@ -22,25 +21,9 @@ use Rattle.pages.specs.inner.Check.{allBelow, marksPass, maxBelow, passe
 use Rattle.pages.proofs.Blocks.{ok-open, sees-ok}
 use Rattle.pages.proofs.Cover.{and-intro, and-true}
 use Rattle.pages.proofs.Lists.{run-tab}
-use Rattle.pages.proofs.Marks.{mark-bare, mark-token, regions-bare, regions-token}
+use Rattle.pages.proofs.Marks.{regions-bare, regions-token, rule-off, rule-on, token-is}
 use Rattle.pages.proofs.Max.{tab-le}
 use Rattle.pages.proofs.Nodes.{RuleAt, below-sees, below-trans}
-
--- ---- the rules at one node, by its token
-pub rule-off : (l v m : ℕ) (a : Bool) → marksPass l v m a ≡ true → tokenOf v ≡ 0 → (maxOf v ≡ m) × (a ≡ false)
-rule-off l v m a h e = let b = and-true (sym (mark-bare l v m a e) ∙ h) in (eqb-true (maxOf v) m (b .0), not-true a (b .1))
-
-pub rule-on : (l v m : ℕ) (a : Bool) → marksPass l v m a ≡ true → tokenOf v ≡ 1 → (maxOf v ≡ l) × (m ≡ 0)
-rule-on l v m a h e = let b = and-true (sym (mark-token l v m a (λ z. omega arith)) ∙ h) in (eqb-true (maxOf v) l (b .0), eqb-true m 0 (b .1))
-
-pub off-rule : (l v m : ℕ) (a : Bool) → tokenOf v ≡ 0 → maxOf v ≡ m → a ≡ false → marksPass l v m a ≡ true
-off-rule l v m a e h f = mark-bare l v m a e ∙ and-intro (eq-eqb (maxOf v) m h) (ap not f)
-
-pub on-rule : (l v m : ℕ) (a : Bool) → tokenOf v ≡ 1 → maxOf v ≡ l → m ≡ 0 → marksPass l v m a ≡ true
-on-rule l v m a e h f = mark-token l v m a (λ z. omega arith) ∙ and-intro (eq-eqb (maxOf v) l h) (eq-eqb m 0 f)
-
-pub token-is : (v : ℕ) → (tokenOf v ≡ 0 → ⊥) → tokenOf v ≡ 1
-token-is v h = elim (ℕ-discrete (tokenOf v) 0) [ yes e ↦ absurd (h e) | no e ↦ omega arith ]
 
 -- ---- what is below a node, by its link
 module _ (p : List ℕ) (n : ℕ) where

@@ -49,6 +49,24 @@ and-passed true true z h = refl
 and-passed true false z h = absurd (true≢false (sym h))
 and-passed false y z h = absurd (true≢false (sym h))
 
+-- the places from i on are zero
+module _ (ss es : List ℕ) (i : ℕ) (hs : i < length ss) (he : i < length es) where
+  pub zeros-start : (getD ss i 0 ≡ 0 → ⊥) → zeros (drop i ss) (drop i es) ≡ false
+  unfolding zeros
+  zeros-start e = rw (drop-cons ss i 0 hs, drop-cons es i 0 he) (simp (ne-eqb _ _ e))
+
+  pub zeros-stop : getD ss i 0 ≡ 0 → (getD es i 0 ≡ 0 → ⊥) → zeros (drop i ss) (drop i es) ≡ false
+  unfolding zeros
+  zeros-stop d e = rw (drop-cons ss i 0 hs, drop-cons es i 0 he) (simp (eq-eqb _ _ d, ne-eqb _ _ e))
+
+  pub zeros-past : getD ss i 0 ≡ 0 → getD es i 0 ≡ 0 → zeros (drop i ss) (drop i es) ≡ zeros (drop (i + 1) ss) (drop (i + 1) es)
+  unfolding zeros
+  zeros-past d e = rw (add-one i, drop-cons ss i 0 hs, drop-cons es i 0 he) (simp (eq-eqb _ _ d, eq-eqb _ _ e))
+
+pub zeros-end : (ss es : List ℕ) (i : ℕ) → length ss ≤ i → zeros (drop i ss) (drop i es) ≡ true
+unfolding zeros
+zeros-end ss es i h = rw (drop-of-length-le ss {i = i} h)
+
 module _ (L : Ladder) where
   -- page-aligned, not empty, ends at or below the largest block's end
   pub record Passes (s e : ℕ) : Type 0 where
@@ -88,19 +106,7 @@ module _ (L : Ladder) where
     unfolding sum
     sum-past b n e = rw (regions-past e)
 
-    pub zeros-start : (getD ss i 0 ≡ 0 → ⊥) → zeros L (drop i ss) (drop i es) ≡ false
-    unfolding zeros
-    zeros-start e = rw (drop-cons ss i 0 hs, drop-cons es i 0 he) (simp (ne-eqb _ _ e))
-
-    pub zeros-stop : getD ss i 0 ≡ 0 → (getD es i 0 ≡ 0 → ⊥) → zeros L (drop i ss) (drop i es) ≡ false
-    unfolding zeros
-    zeros-stop d e = rw (drop-cons ss i 0 hs, drop-cons es i 0 he) (simp (eq-eqb _ _ d, ne-eqb _ _ e))
-
-    pub zeros-past : getD ss i 0 ≡ 0 → getD es i 0 ≡ 0 → zeros L (drop i ss) (drop i es) ≡ zeros L (drop (i + 1) ss) (drop (i + 1) es)
-    unfolding zeros
-    zeros-past d e = rw (add-one i, drop-cons ss i 0 hs, drop-cons es i 0 he) (simp (eq-eqb _ _ d, eq-eqb _ _ e))
-
-    pub pass-here : getD es i 0 ≡ 0 → regionsPass L (drop i ss) (drop i es) ≡ zeros L (drop i ss) (drop i es)
+    pub pass-here : getD es i 0 ≡ 0 → regionsPass L (drop i ss) (drop i es) ≡ zeros (drop i ss) (drop i es)
     unfolding regionsPass
     pass-here e = rw (drop-cons ss i 0 hs, drop-cons es i 0 he) (simp (eq-eqb _ _ e))
 
@@ -118,10 +124,6 @@ module _ (L : Ladder) where
     pub sum-end : (b n : ℕ) → sum (overlap b n) (regionsOf L (drop i ss) (drop i es)) ≡ 0
     unfolding sum regionsOf
     sum-end b n = rw (drop-of-length-le ss {i = i} h)
-
-    pub zeros-end : zeros L (drop i ss) (drop i es) ≡ true
-    unfolding zeros
-    zeros-end = rw (drop-of-length-le ss {i = i} h)
 
     pub pass-end : regionsPass L (drop i ss) (drop i es) ≡ true
     unfolding regionsPass

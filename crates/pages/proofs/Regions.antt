@@ -22,27 +22,26 @@ use Rattle.pages.specs.inner.RegionTest.{regionPasses, zeros, regionsPas
 use Rattle.pages.proofs.Cover.{and-true, and-intro}
 use Rattle.pages.proofs.RegionTest.{Passes, passes-of, passes-if}
 
-module _ (L : Ladder) where
-  -- all places are zero
-  zeros-of : (ss es : List ℕ) → length ss ≡ length es → zeros L ss es ≡ true → (i : ℕ) → (getD ss i 0 ≡ 0) × (getD es i 0 ≡ 0)
-  unfolding zeros
-  zeros-of [] [] l h i = (refl, refl)
-  zeros-of [] (e ∷ es) l h i = absurd (omega arith)
-  zeros-of (s ∷ ss) [] l h i = absurd (omega arith)
-  zeros-of (s ∷ ss) (e ∷ es) l h zero =
-      let x = and-true {a = eqb s 0} h in
-      let y = and-true {a = eqb e 0} (x .1) in
-      (eqb-true s 0 (x .0), eqb-true e 0 (y .0))
-  zeros-of (s ∷ ss) (e ∷ es) l h (suc i) =
-      let x = and-true {a = eqb s 0} h in
-      let y = and-true {a = eqb e 0} (x .1) in
-      zeros-of ss es (omega arith) (y .1) i
+-- all places are zero
+zeros-of : (ss es : List ℕ) → length ss ≡ length es → zeros ss es ≡ true → (i : ℕ) → (getD ss i 0 ≡ 0) × (getD es i 0 ≡ 0)
+unfolding zeros
+zeros-of [] [] l h i = (refl, refl)
+zeros-of [] (e ∷ es) l h i = absurd (omega arith)
+zeros-of (s ∷ ss) [] l h i = absurd (omega arith)
+zeros-of (s ∷ ss) (e ∷ es) l h zero =
+    let x = and-true {a = eqb s 0} h in
+    let y = and-true {a = eqb e 0} (x .1) in
+    (eqb-true s 0 (x .0), eqb-true e 0 (y .0))
+zeros-of (s ∷ ss) (e ∷ es) l h (suc i) =
+    let x = and-true {a = eqb s 0} h in
+    let y = and-true {a = eqb e 0} (x .1) in
+    zeros-of ss es (omega arith) (y .1) i
 
-  zeros-if : (ss es : List ℕ) → ((i : ℕ) → (getD ss i 0 ≡ 0) × (getD es i 0 ≡ 0)) → zeros L ss es ≡ true
-  unfolding zeros
-  zeros-if [] es h = refl
-  zeros-if (s ∷ ss) [] h = refl
-  zeros-if (s ∷ ss) (e ∷ es) h = and-intro (eq-eqb s 0 (h 0 .0)) (and-intro (eq-eqb e 0 (h 0 .1)) (zeros-if ss es (λ i. h (suc i))))
+zeros-if : (ss es : List ℕ) → ((i : ℕ) → (getD ss i 0 ≡ 0) × (getD es i 0 ≡ 0)) → zeros ss es ≡ true
+unfolding zeros
+zeros-if [] es h = refl
+zeros-if (s ∷ ss) [] h = refl
+zeros-if (s ∷ ss) (e ∷ es) h = and-intro (eq-eqb s 0 (h 0 .0)) (and-intro (eq-eqb e 0 (h 0 .1)) (zeros-if ss es (λ i. h (suc i))))
 
 -- an aligned address is the bytes of the frames before it
 module _ (L : Ladder) (m : MultipliesUp L) where
@@ -197,8 +196,8 @@ module _ (L : Ladder) (m : MultipliesUp L) where
   pass-if (s ∷ ss) (e ∷ es) most r = go (eqb e 0) refl (pass-if ss es)
     where
       go : (x : Bool) → eqb e 0 ≡ x → ((most : ℕ) → Regions L most ss es → regionsPass L ss es ≡ true)
-          → cond x (zeros L (s ∷ ss) (e ∷ es)) (regionPasses L s e && (apart (addressFrame L s) (addressFrame L e) (regionsOf L ss es) && regionsPass L ss es)) ≡ true
-      go true x ih = zeros-if L (s ∷ ss) (e ∷ es) (λ i. r .rest i (omega (arith, none-filled most s e ss es r (eqb-true e 0 x))))
+          → cond x (zeros (s ∷ ss) (e ∷ es)) (regionPasses L s e && (apart (addressFrame L s) (addressFrame L e) (regionsOf L ss es) && regionsPass L ss es)) ≡ true
+      go true x ih = zeros-if (s ∷ ss) (e ∷ es) (λ i. r .rest i (omega (arith, none-filled most s e ss es r (eqb-true e 0 x))))
       go false x ih = and-intro (passes-if L s e (record { start-aligned = r .aligned 0 c .0; end-aligned = r .aligned 0 c .1; some = r .some 0 c; within = r .within 0 c }))
           (and-intro (apart-if s e (r .aligned 0 c .0) (r .aligned 0 c .1) ss es (most - 1) (others most s e ss es r c) (λ j f k. r .alone 0 (suc j) f (omega arith) (omega arith)))
           (ih (most - 1) (others most s e ss es r c)))
@@ -253,7 +252,7 @@ module _ (L : Ladder) (m : MultipliesUp L) where
   pass-of (s ∷ ss) (e ∷ es) l h = go (eqb e 0) refl (pass-of ss es)
     where
       go : (x : Bool) → eqb e 0 ≡ x → (length ss ≡ length es → regionsPass L ss es ≡ true → Regions L (length ss) ss es) → Regions L (suc (length ss)) (s ∷ ss) (e ∷ es)
-      go true x ih = none (suc (length ss)) (s ∷ ss) (e ∷ es) (zeros-of L (s ∷ ss) (e ∷ es) l (rw x at h))
+      go true x ih = none (suc (length ss)) (s ∷ ss) (e ∷ es) (zeros-of (s ∷ ss) (e ∷ es) l (rw x at h))
       go false x ih =
           let k : (regionPasses L s e && (apart (addressFrame L s) (addressFrame L e) (regionsOf L ss es) && regionsPass L ss es)) ≡ true = rw x at h in
           let y = and-true k in

@@ -1,7 +1,7 @@
 -- The way to a block, and the words that a seed would open, at the code's own numbers. Assumes nothing.
 use mathlib.Core.Bool.{Bool, true, false}
 use mathlib.Core.List.{List}
-use mathlib.Core.Path.{_≡_, refl, sym, ap, ap₂, _∙_}
+use mathlib.Core.Path.{_≡_, refl, ap, ap₂, _∙_}
 use Prim.Native.Nat.{ℕ, zero, suc, pred, _+_, _-_, _/_, _%_, _≤_, _<_}
 use native.Mathlib.Numerals.{sub-one}
 use native.Mathlib.Omega.{arith}
@@ -19,28 +19,39 @@ use Rattle.pages.specs.inner.Asks.{NeedAsk}
 use Rattle.pages.specs.inner.Blocks.{Readable}
 use Rattle.pages.proofs.AnyFree.{free-down}
 use Rattle.pages.proofs.Need.{NeedDown, need-down-at}
+use Rattle.pages.proofs.Sizes.{frames-below}
 
--- ---- one level down, by the link and the size that the code reads
-pub frames-below : (level size : ℕ) → 2 ≤ level → size ≡ framesOf six (level - 1) → size ≡ frames six (pred (pred level))
-frames-below zero size h e = absurd (omega arith)
-frames-below (suc zero) size h e = absurd (omega arith)
-frames-below (suc (suc d)) size h e = e ∙ ap (framesOf six) (sub-one (suc (suc d)))
-
-module _ (level code : ℕ) (p : List ℕ) (q b link size : ℕ) (lo : 1 ≤ code) (l : code < level) (e : link ≡ linkOf (word p q)) (ne : link ≡ 0 → ⊥) (f : size ≡ framesOf six (level - 1)) where
-  is : size ≡ frames six (pred (pred level))
-  is = frames-below level size (omega arith) f
-
+-- ---- one level down, by the link that the code reads and the child's place and frame that it goes on with
+module _ (level code : ℕ) (p : List ℕ) (q b link y b' : ℕ) (lo : 1 ≤ code) (l : code < level) (e : link ≡ linkOf (word p q)) (ne : link ≡ 0 → ⊥)
+    (ey : y ≡ link + 1 + b / framesOf six (level - 1)) (eb : b' ≡ b % framesOf six (level - 1)) where
   opened : linkOf (word p q) ≡ 0 → ⊥
   opened z = ne (e ∙ z)
 
-  at : link + 1 + b / size ≡ firstChild p q + b / frames six (pred (pred level))
-  at = omega (arith, ap (λ (x : ℕ). b / x) is)
+  at : y ≡ firstChild p q + b / frames six (pred (pred level))
+  at = omega (arith, ey, ap (λ (x : ℕ). b / x) (frames-below level (omega arith)))
 
-  pub need-below : NeedAsk level code p q b → NeedDown level code p q b (level - 1) (link + 1 + b / size) (b % size)
-  need-below a = need-down-at level code p q b (level - 1) (link + 1 + b / size) (b % size) a l opened (sub-one level) at (ap (λ (x : ℕ). b % x) is)
+  within : b' ≡ b % frames six (pred (pred level))
+  within = eb ∙ ap (λ (x : ℕ). b % x) (frames-below level (omega arith))
 
-  pub free-below : (word p q / 8 % 2 ≡ 1 → ⊥) → anyFreeW six (pred level) (pred code) p q b ≡ anyFreeW six (pred (level - 1)) (pred code) p (link + 1 + b / size) (b % size)
-  free-below t = free-down level code p q b (level - 1) (link + 1 + b / size) (b % size) t lo l opened (sub-one level) at (ap (λ (x : ℕ). b % x) is)
+  pub need-below : NeedAsk level code p q b → NeedDown level code p q b (level - 1) y b'
+  need-below a = need-down-at level code p q b (level - 1) y b' a l opened (sub-one level) at within
+
+  pub free-below : (word p q / 8 % 2 ≡ 1 → ⊥) → anyFreeW six (pred level) (pred code) p q b ≡ anyFreeW six (pred (level - 1)) (pred code) p y b'
+  free-below t = free-down level code p q b (level - 1) y b' t lo l opened (sub-one level) at within
+
+  -- where the frame before the block was stored since
+  pub needed-down : (b ≡ 0 → ⊥) → openingsAfterW six (pred level) (pred code) p q b ≡ openingsAfterW six (pred (level - 1)) (pred code) p y b'
+  unfolding openingsAfterW
+  needed-down nb = rw (at, within, sub-one level) (go level code b lo l nb (linkOf (word p q)) refl)
+    where
+      go : (level code b : ℕ) → 1 ≤ code → code < level → (b ≡ 0 → ⊥) → (v : ℕ) → linkOf (word p q) ≡ v
+          → openingsAfterW six (pred level) (pred code) p q b ≡ openingsAfterW six (pred (pred level)) (pred code) p (firstChild p q + b / frames six (pred (pred level))) (b % frames six (pred (pred level)))
+      go zero code b k l nb v z = absurd (omega arith)
+      go (suc zero) code b k l nb v z = absurd (omega arith)
+      go (suc (suc d)) code zero k l nb v z = absurd (nb refl)
+      go (suc (suc d)) zero (suc b) k l nb v z = absurd (omega arith)
+      go (suc (suc d)) (suc d') (suc b) k l nb zero z = absurd (opened z)
+      go (suc (suc d)) (suc d') (suc b) k l nb (suc j) z = rw (lt-ltb d' (suc d) (omega arith), openingsAfterW, z)
 
 -- ---- the words of a path, where the frame before the block was stored since
 pub after-first : (level code : ℕ) → pathAfter six (pred level) (pred code) 0 ≡ path six (pred level) (pred code)
@@ -59,7 +70,7 @@ after-here (suc (suc d)) (suc d') (suc b) k l ne = rw (le-ltb d' (suc d) (omega 
 
 pub after-down : (level code b size : ℕ) → 1 ≤ code → code < level → (b ≡ 0 → ⊥) → size ≡ framesOf six (level - 1) → pathAfter six (pred level) (pred code) b ≡ pathAfter six (pred (level - 1)) (pred code) (b % size)
 unfolding pathAfter
-after-down level code b size k l ne f = rw (frames-below level size (omega arith) f, sub-one level) (go level code b k l ne)
+after-down level code b size k l ne f = rw (f, frames-below level (omega arith), sub-one level) (go level code b k l ne)
   where
     go : (level code b : ℕ) → 1 ≤ code → code < level → (b ≡ 0 → ⊥) → pathAfter six (pred level) (pred code) b ≡ pathAfter six (pred (pred level)) (pred code) (b % frames six (pred (pred level)))
     go zero code b k l ne = absurd (omega arith)
@@ -82,33 +93,13 @@ needed-here (suc zero) p q b ne = refl
 needed-here (suc (suc d)) p q zero ne = absurd (ne refl)
 needed-here (suc (suc d)) p q (suc b) ne = rw (le-ltb (suc d) (suc d) (omega arith), openingsAfterW)
 
-pub needed-shut : (level code : ℕ) (p : List ℕ) (q b size : ℕ) → 1 ≤ code → code < level → (b ≡ 0 → ⊥) → linkOf (word p q) ≡ 0 → size ≡ framesOf six (level - 1)
-    → openingsAfterW six (pred level) (pred code) p q b ≡ pathAfter six (pred (level - 1)) (pred code) (b % size)
-unfolding openingsAfterW
-needed-shut level code p q b size k l ne z f = rw (frames-below level size (omega arith) f, sub-one level) (go level code b k l ne)
-  where
-    go : (level code b : ℕ) → 1 ≤ code → code < level → (b ≡ 0 → ⊥) → openingsAfterW six (pred level) (pred code) p q b ≡ pathAfter six (pred (pred level)) (pred code) (b % frames six (pred (pred level)))
-    go zero code b k l ne = absurd (omega arith)
-    go (suc zero) code b k l ne = absurd (omega arith)
-    go (suc (suc d)) code zero k l ne = absurd (ne refl)
-    go (suc (suc d)) zero (suc b) k l ne = absurd (omega arith)
-    go (suc (suc d)) (suc d') (suc b) k l ne = rw (lt-ltb d' (suc d) (omega arith), openingsAfterW, z)
-
-pub needed-down : (level code : ℕ) (p : List ℕ) (q b link size : ℕ) → 1 ≤ code → code < level → (b ≡ 0 → ⊥) → link ≡ linkOf (word p q) → (link ≡ 0 → ⊥) → size ≡ framesOf six (level - 1)
-    → openingsAfterW six (pred level) (pred code) p q b ≡ openingsAfterW six (pred (level - 1)) (pred code) p (link + 1 + b / size) (b % size)
-unfolding openingsAfterW
-needed-down level code p q b link size k l ne e nz f = rw (frames-below level size (omega arith) f, sub-one level) (go level code b link k l ne e nz)
-  where
-    go : (level code b link : ℕ) → 1 ≤ code → code < level → (b ≡ 0 → ⊥) → link ≡ linkOf (word p q) → (link ≡ 0 → ⊥)
-        → openingsAfterW six (pred level) (pred code) p q b ≡ openingsAfterW six (pred (pred level)) (pred code) p (link + 1 + b / frames six (pred (pred level))) (b % frames six (pred (pred level)))
-    go zero code b link k l ne e nz = absurd (omega arith)
-    go (suc zero) code b link k l ne e nz = absurd (omega arith)
-    go (suc (suc d)) code zero link k l ne e nz = absurd (ne refl)
-    go (suc (suc d)) zero (suc b) link k l ne e nz = absurd (omega arith)
-    go (suc (suc d)) (suc d') (suc b) zero k l ne e nz = absurd (nz refl)
-    go (suc (suc d)) (suc d') (suc b) (suc j) k l ne e nz =
-        let s : suc (suc j) + suc b / frames six d ≡ suc j + 1 + suc b / frames six d = omega arith in
-        rw (lt-ltb d' (suc d) (omega arith), openingsAfterW, sym e) (ap (λ (x : ℕ). openingsAfterW six d d' p x (suc b % frames six d)) s)
+pub needed-shut : (level code : ℕ) (p : List ℕ) (q b : ℕ) → 1 ≤ code → code < level → (b ≡ 0 → ⊥) → linkOf (word p q) ≡ 0 → openingsAfterW six (pred level) (pred code) p q b ≡ pathAfter six (pred level) (pred code) b
+unfolding openingsAfterW pathAfter
+needed-shut zero code p q b k l ne z = absurd (omega arith)
+needed-shut (suc zero) code p q b k l ne z = absurd (omega arith)
+needed-shut (suc (suc d)) code p q zero k l ne z = absurd (ne refl)
+needed-shut (suc (suc d)) zero p q (suc b) k l ne z = absurd (omega arith)
+needed-shut (suc (suc d)) (suc d') p q (suc b) k l ne z = rw (lt-ltb d' (suc d) (omega arith), openingsAfterW, pathAfter, z)
 
 -- ---- a seed's blocks, one after the other
 -- a seed of n frames has n blocks at most: more fuel changes nothing

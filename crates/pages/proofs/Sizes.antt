@@ -1,11 +1,12 @@
--- The six sizes by the level of a node, as the tables of `sizes` have them. Assumes nothing.
+-- The six sizes by the level of a node, as the tables of `sizes` have them, and the root's. Assumes nothing.
 use mathlib.Core.Path.{_≡_, refl, sym, ap, ap₂, _∙_}
-use Prim.Native.Nat.{ℕ, zero, suc, _+_, _*_, _/_, _≤_, _<_}
+use Prim.Native.Nat.{ℕ, zero, suc, pred, _+_, _*_, _-_, _/_, _≤_, _<_}
+use native.Mathlib.Numerals.{sub-one}
 use native.Mathlib.Omega.{arith}
 use Rattle.sizes.specs.Ladder.{smallest, largest as largest-code, bytes, fanOut, frames as frames-of, largestAt, frameAddress}
 use Rattle.sizes.specs.Six.{six, mostCode}
 use Rattle.sizes.proofs.Six.{bytes-most, largest-most}
-use Rattle.model.specs.Ladder.{frames, top}
+use Rattle.model.specs.Ladder.{fan, frames, top}
 use Rattle.model.specs.TreeStore.{largestFit}
 use Rattle.model.proofs.Ladder.{frames-pos}
 use Rattle.model.proofs.Seed.{largestFit-ok}
@@ -35,6 +36,34 @@ pub frames-at : (level : ℕ) → 1 ≤ level → level ≤ mostCode → (bytes 
 frames-at level lo hi =
     let e = bytes-at level lo hi in
     (omega (arith, e), frames-some level lo, omega (arith, e, bytes-most level))
+
+-- the frames of a node of a level, and those of its children: all of them are the node's
+pub frames-own : (level : ℕ) → 1 ≤ level → frames six (pred level) ≡ framesOf six level
+frames-own zero lo = absurd (omega arith)
+frames-own (suc d) lo = refl
+
+pub frames-below : (level : ℕ) → 2 ≤ level → framesOf six (level - 1) ≡ frames six (pred (pred level))
+frames-below zero lo = absurd (omega arith)
+frames-below (suc zero) lo = absurd (omega arith)
+frames-below (suc (suc d)) lo = ap (framesOf six) (sub-one (suc (suc d)))
+
+pub children-frames : (level : ℕ) → 2 ≤ level → framesOf six level ≡ fanOutOf six level * framesOf six (level - 1)
+unfolding frames
+children-frames zero lo = absurd (omega arith)
+children-frames (suc zero) lo = absurd (omega arith)
+children-frames (suc (suc d)) lo = ap (λ (j : ℕ). fan six (suc d) * framesOf six j) (sym (sub-one (suc (suc d))))
+
+-- the root is a node of the largest size, whose frames are all frames
+pub root-level : mostCode ≡ suc (top six)
+unfolding top largest-code
+root-level = refl
+
+pub root-frames : framesOf six mostCode ≡ mostFrames
+unfolding frames fan fanOut
+root-frames = refl
+
+pub top-frames : frames six (top six) ≡ mostFrames
+top-frames = sym (ap (framesOf six) root-level) ∙ root-frames
 
 -- no frame up to the end of the largest block is cut off
 frame-address : (f : ℕ) → f ≤ mostFrames → frameAddress six f ≡ f * bytes six smallest

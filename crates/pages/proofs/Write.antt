@@ -8,7 +8,6 @@ use lib.ListN.{length, set, length-set}
 use lib.Seq.{getD-set-same, getD-set-other}
 use Rattle.sizes.specs.Ladder.{Ladder}
 use Rattle.model.specs.Ladder.{fan}
-use Rattle.model.specs.Tree.{node}
 use Rattle.pages.specs.Nodes.{mapRun, openWith}
 use Rattle.pages.specs.Words.{linkOf, word}
 use Rattle.pages.specs.inner.Blocks.{In}

@@ -1,11 +1,12 @@
 // Nodes in the pool: opened, marked, stored and taken, with the original's names.
 ghost use mathlib.Core.Path.{_≡_};
-ghost use Prim.Native.Nat.{ℕ, pred, _+_, _*_, _≤_, _<_};
+ghost use Prim.Native.Nat.{ℕ, suc, pred, _+_, _*_, _≤_, _<_};
 ghost use lib.ListN.{length, set};
-ghost use Rattle.sizes.specs.Six.{six};
+ghost use Rattle.sizes.specs.Six.{six, mostChildren};
 ghost use Rattle.pages.specs.Words.{word as word_at, linkOf};
 ghost use Rattle.pages.specs.Nodes.{words, withMarks, mapRun, childrenMax, childrenAll, childrenFirst, openWith, openW, handW, refreshW, mergeW, storeW, takeW};
 ghost use Rattle.pages.specs.inner.Asks.{OpenAsk, RunAsk, StoreAsk, TakeAsk};
+use crate::ladder::child_towards;
 use crate::ladder::fan_out_of;
 use crate::ladder::frames_of;
 use crate::word::link_of;
@@ -205,13 +206,9 @@ pub fn store_page_token(
         set_marks(pool, q, token_marks(level));
         return used;
     }
-    let b = base.0;
     let opened = initialize_children_if_needed(pool, used, q, level);
-    let size = frames_of(level - 1);
-    let number = (b / size) as usize;
-    let child = link_of(word(pool, q)) + 1 + number;
-    let within = b % size;
-    let last = store_page_token(pool, opened, Place(child), level - 1, Frame(within), code);
+    let to = child_towards(link_of(word(pool, q)), level, base);
+    let last = store_page_token(pool, opened, to.child, level - 1, to.within, code);
     try_to_merge_page_tokens(pool, q, level);
     last
 }
@@ -225,7 +222,7 @@ pub fn acquire_page_token(
     code: usize,
 ) -> Acquired
     requires { ⌜ TakeAsk level code (now pool) used (q .0) ⌝ }
-    ensures { λ r. ⌜ (now (pool .exit) ≡ takeW six (pred level) (pred code) (words (now (pool .entry)) used) (q .0) .words .pool) × (r .used ≡ takeW six (pred level) (pred code) (words (now (pool .entry)) used) (q .0) .words .used) × (r .base .0 ≡ takeW six (pred level) (pred code) (words (now (pool .entry)) used) (q .0) .base) × (r .probes ≡ takeW six (pred level) (pred code) (words (now (pool .entry)) used) (q .0) .probes) × (r .probes ≤ 513 * level) ⌝ }
+    ensures { λ r. ⌜ (now (pool .exit) ≡ takeW six (pred level) (pred code) (words (now (pool .entry)) used) (q .0) .words .pool) × (r .used ≡ takeW six (pred level) (pred code) (words (now (pool .entry)) used) (q .0) .words .used) × (r .base .0 ≡ takeW six (pred level) (pred code) (words (now (pool .entry)) used) (q .0) .base) × (r .probes ≡ takeW six (pred level) (pred code) (words (now (pool .entry)) used) (q .0) .probes) × (r .probes ≤ suc mostChildren * level) ⌝ }
 {
     if level == code {
         set_marks(pool, q, 0);

@@ -11,7 +11,8 @@ ghost use Rattle.pages.specs.Words.{word as word_at};
 ghost use Rattle.pages.specs.Room.{anyFreeW, tokensIn};
 ghost use Rattle.pages.specs.View.{view};
 ghost use Rattle.pages.specs.inner.Check.{SoundW};
-ghost use Rattle.pages.specs.inner.Asks.{NeedAsk};
+ghost use Rattle.pages.specs.inner.Asks.{NeedAsk, SoundAsk};
+use crate::ladder::child_towards;
 use crate::ladder::fan_out_of;
 use crate::ladder::frames_of;
 use crate::word::level_of;
@@ -39,12 +40,8 @@ pub fn any_frame_free(pool: &[u32], q: Place, level: usize, base: Frame, code: u
     if link == 0 {
         return false;
     }
-    let b = base.0;
-    let size = frames_of(level - 1);
-    let number = (b / size) as usize;
-    let child = link + 1 + number;
-    let within = b % size;
-    any_frame_free(pool, Place(child), level - 1, Frame(within), code)
+    let to = child_towards(link, level, base);
+    any_frame_free(pool, to.child, level - 1, to.within, code)
 }
 
 // How many of n nodes from `first` on have tokens.
@@ -92,8 +89,8 @@ pub fn free_bytes(pool: &[u32], used: usize) -> u64
 }
 
 // The code of the largest free block, 0 for none: the root's max.
-pub fn largest(pool: &[u32], used: usize) -> usize
-    requires { ⌜ SoundW six (top six) (now pool) used ⌝ }
+pub fn largest(pool: &[u32]) -> usize
+    requires { ⌜ SoundAsk (now pool) ⌝ }
     ensures { λ r. ⌜ r ≡ largest_of (top six) (view six (top six) (word_at (now (pool .entry))) 0) ⌝ }
 {
     wide(max_of(word(pool, Place(0))))

@@ -76,7 +76,7 @@ pub fn covered(starts: &[u64], ends: &[u64], base: Frame, size: u64) -> bool
 // Whether all places from `first` on are zero.
 fn unused_from(starts: &[u64], ends: &[u64], first: usize) -> bool
     requires { ⌜ (length (now starts) ≡ places) × (length (now ends) ≡ places) × (first ≤ places) ⌝ }
-    ensures { λ r. ⌜ r ≡ zeros six (drop first (now (starts .entry))) (drop first (now (ends .entry))) ⌝ }
+    ensures { λ r. ⌜ r ≡ zeros (drop first (now (starts .entry))) (drop first (now (ends .entry))) ⌝ }
 {
     let mut i: usize = first;
     while i < ends.len() {

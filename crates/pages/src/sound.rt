@@ -111,22 +111,23 @@ fn passes(pool: &[u32], starts: &[u64], ends: &[u64], level: usize, q: Place, ba
 }
 
 // Whether the block of the node at q, which has a link, may be entered with the count.
-fn may_enter(pool: &[u32], used: usize, q: Place, level: usize, link: usize, count: usize) -> bool
-    requires { ⌜ (used ≤ length (now pool)) × (q .0 < used) × (1 ≤ level) × (level ≤ mostCode) × (count ≤ used) × (levelOf (word_at (now pool) (q .0)) ≡ level) × (linkOf (word_at (now pool) (q .0)) ≡ link) × (1 ≤ link) ⌝ }
+fn may_enter(pool: &[u32], used: usize, q: Place, level: usize, link: Place, count: usize) -> bool
+    requires { ⌜ (used ≤ length (now pool)) × (q .0 < used) × (1 ≤ level) × (level ≤ mostCode) × (count ≤ used) × (levelOf (word_at (now pool) (q .0)) ≡ level) × (linkOf (word_at (now pool) (q .0)) ≡ link .0) × (1 ≤ link .0) ⌝ }
     ensures { λ r. ⌜ ((r ≡ true → Enter (fanOutOf six) ltb (now (pool .entry)) used level (q .0) count) × (Enter (fanOutOf six) ltb (now (pool .entry)) used level (q .0) count → r ≡ true)) ⌝ }
 {
     let at = q.0;
+    let block = link.0;
     if level == 1 {
         return false;
     }
     let n = fan_out_of(level);
-    if link <= at {
+    if block <= at {
         return false;
     }
-    if link + n >= used {
+    if block + n >= used {
         return false;
     }
-    if wide(word(pool, Place(link))) != at {
+    if wide(word(pool, link)) != at {
         return false;
     }
     count + n + 1 < used
@@ -157,7 +158,7 @@ fn node_check(
         }
         return used;
     }
-    if !may_enter(pool, used, q, level, link, count) {
+    if !may_enter(pool, used, q, level, Place(link), count) {
         return used;
     }
     if !passes(pool, starts, ends, level, q, base) {

@@ -5,13 +5,14 @@ use Prim.Native.Nat.{ℕ, zero, suc, pred, _+_, _≤_, _<_}
 use lib.ListN.{length}
 use Rattle.sizes.specs.Ladder.{Ladder}
 use Rattle.sizes.specs.Six.{six, mostCode}
-use Rattle.model.specs.Ladder.{frames}
+use Rattle.model.specs.Ladder.{frames, top}
 use Rattle.model.specs.Tree.{largest, Sound as SoundTree, pick}
-use Rattle.pages.specs.Limits.{poolLimit}
+use Rattle.pages.specs.Limits.{poolLimit, mostFrames}
 use Rattle.pages.specs.Words.{word, maxOf, linkOf, fanOutOf}
 use Rattle.pages.specs.Room.{openingsW}
 use Rattle.pages.specs.View.{view}
 use Rattle.pages.specs.inner.Blocks.{Child, Readable}
+use Rattle.pages.specs.inner.Check.{SoundW}
 
 -- each max at and below the node at q is the largest block of its tree
 abbrev pub Maxed : Ladder → (d : ℕ) → List ℕ → (q : ℕ) → Type 0
@@ -75,3 +76,15 @@ pub record NeedAsk (level code : ℕ) (p : List ℕ) (q b : ℕ) : Type 0 where
   pub used : ℕ
   pub readable : Readable six (pred level) p used q
   pub base : b < frames six (pred level)
+
+-- to count the words of a seed from the frame a to the frame e
+pub record SeedAsk (p : List ℕ) (a e : ℕ) : Type 0 where
+  pub used : ℕ
+  pub readable : Readable six (top six) p used 0
+  pub some : a < e
+  pub ends : e ≤ mostFrames
+
+-- to read the root's max
+pub record SoundAsk (p : List ℕ) : Type 0 where
+  pub used : ℕ
+  pub sound : SoundW six (top six) p used

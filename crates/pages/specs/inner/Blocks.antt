@@ -1,6 +1,6 @@
 -- The blocks that are seen from a node on, sums over them, and the rules of their places. `fan` has the children of a node of each level, for any ladder.
 use mathlib.Core.Path.{_≡_}
-use mathlib.Core.Bool.{Bool, true, false}
+use mathlib.Core.Bool.{Bool, true}
 use mathlib.Core.List.{List}
 use Prim.Native.Nat.{ℕ, zero, suc, _+_, _≤_, _<_}
 use lib.Dec.{eqb, ltb}

@@ -8,16 +8,16 @@ use Rattle.sizes.specs.Ladder.{Ladder, smallest, largest, bytes, addressFrame}
 use Rattle.model.specs.TreeStore.{apart}
 use Rattle.pages.specs.Regions.{regionsOf}
 
+-- all places are zero
+unfoldable pub zeros : (starts ends : List ℕ) → Bool
+zeros [] es = true
+zeros (s ∷ ss) [] = true
+zeros (s ∷ ss) (e ∷ es) = eqb s 0 && (eqb e 0 && zeros ss es)
+
 module _ (L : Ladder) where
   -- page-aligned, not empty, ends at or below the largest block's end
   unfoldable pub regionPasses : (s e : ℕ) → Bool
   regionPasses s e = eqb (s % bytes L smallest) 0 && (eqb (e % bytes L smallest) 0 && (ltb s e && leb e (bytes L (largest L))))
-
-  -- all places are zero
-  unfoldable pub zeros : (starts ends : List ℕ) → Bool
-  zeros [] es = true
-  zeros (s ∷ ss) [] = true
-  zeros (s ∷ ss) (e ∷ es) = eqb s 0 && (eqb e 0 && zeros ss es)
 
   unfoldable pub regionsPass : (starts ends : List ℕ) → Bool
   regionsPass [] es = true

@@ -6,11 +6,11 @@ use borrow.Author.Needs.{needs}
 use mathlib.Core.List.{List}
 use mathlib.Core.Path.{_≡_, refl, sym, ap, ap₂, _∙_, subst}
 use lib.ListN.{length}
-use Rattle.sizes.specs.Six.{six}
+use Rattle.sizes.specs.Six.{six, mostCode, mostChildren}
 use Rattle.pages.specs.Words.{fanOutOf, firstChild}
 use Rattle.pages.specs.Nodes.{Taken, markW, refreshW, takeW, childrenFirst, words}
 use Rattle.pages.proofs.AskTake.{taken, take-here, take-open, take-run, take-look, TakeDown, take-down-at}
-use Rattle.pages.proofs.SeedNeed.{frames-below}
+use Rattle.pages.proofs.Sizes.{frames-below}
 use borrow.Fn.Kinds.{In}
 use borrow.Fn.PlainCycle.{Measures, is, falls, and}
 use Rattle.pages.proofs.node.acquire_page_token.Reads as acquire-page-token
@@ -81,10 +81,10 @@ down t c =
     let l = above t (c .before .before .before .before .before .before .before .before .before) in
     take-down-at (a .level) (a .code) (a .pool .now) (a .used) (a .q .0) (i .last .0) (d .last .0) (i .result) (a .level - 1) (k .result + 1) (k .result + 1 + n .result) (f .result) (n .result) (c .frames-of .result)
     (s .pre .1) l (i .ensures .0) (d .ensures) (i .ensures .1) (sub-one (a .level)) (omega (arith, k .ensures .0, v .ensures)) (f .ensures .0) (n .ensures) refl
-    (frames-below (a .level) (c .frames-of .result) (omega (arith, s .pre .1 .lo, l)) (c .frames-of .ensures .0))
+    (c .frames-of .ensures .0 ∙ frames-below (a .level) (omega (arith, s .pre .1 .lo, l)))
 
--- the child's number is below 512, the level is 6 at most
-near : (t : ℕ) (c : acquire-page-token-lts.After-frames-of (acquire-page-token-calls t) (acquire-page-token-at t) acquire-page-token.Post) → (c .before .first-child-with-room .result < 512) × (2 ≤ c .before .before .before .before .before .before .before .before .before .before .before .before .before .before .before .before .before .args .level) × (c .before .before .before .before .before .before .before .before .before .before .before .before .before .before .before .before .before .args .level ≤ 6)
+-- the child's number is below the most children, the level is the highest code at most
+near : (t : ℕ) (c : acquire-page-token-lts.After-frames-of (acquire-page-token-calls t) (acquire-page-token-at t) acquire-page-token.Post) → (c .before .first-child-with-room .result < mostChildren) × (2 ≤ c .before .before .before .before .before .before .before .before .before .before .before .before .before .before .before .before .before .args .level) × (c .before .before .before .before .before .before .before .before .before .before .before .before .before .before .before .before .before .args .level ≤ mostCode)
 near t c =
     let d = c .before .before .before .before .before .before .before .before .before in
     let s = c .before .before .before .before .before .before .before .before .before .before .before .before .before .before .before .before .before in

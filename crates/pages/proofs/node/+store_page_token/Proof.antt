@@ -10,13 +10,13 @@ use Rattle.sizes.specs.Six.{six}
 use Rattle.pages.specs.Words.{word}
 use Rattle.pages.specs.Nodes.{Words, withMarks, markW, storeW, words}
 use Rattle.pages.proofs.Ask.{open-ask, store-here, Down, store-down-at}
-use Rattle.pages.proofs.SeedNeed.{frames-below}
+use Rattle.pages.proofs.Sizes.{frames-own, frames-below}
 use borrow.Fn.Kinds.{In}
 use borrow.Fn.PlainCycle.{Measures, is, falls, and}
 use Rattle.pages.proofs.node.store_page_token.Reads as store-page-token
 use Rattle.pages.proofs.node.store_page_token.Kinds as store-page-token-kinds
 use Rattle.pages.proofs.node.+store_page_token.Lts-store_page_token as store-page-token-lts
-use Rattle.pages.proofs.ladder.frames_of.Reads as frames-of-reads
+use Rattle.pages.proofs.ladder.child_towards.Reads as child-towards-reads
 use Rattle.pages.proofs.node.initialize_children_if_needed.Reads as initialize-children-if-needed-reads
 use Rattle.pages.proofs.node.set_marks.Reads as set-marks-reads
 use Rattle.pages.proofs.node.try_to_merge_page_tokens.Reads as try-to-merge-page-tokens-reads
@@ -46,21 +46,22 @@ store-page-token-below t =
     store-page-token.Pre
 
 abbrev store-page-token-calls : ℕ → store-page-token-lts.Claims
-store-page-token-calls t = (token-marks-reads.Asked, token-marks-reads.Learnt, set-marks-reads.Asked, set-marks-reads.Learnt, initialize-children-if-needed-reads.Asked, initialize-children-if-needed-reads.Learnt, frames-of-reads.Asked, frames-of-reads.Learnt, word-reads.Asked, word-reads.Learnt, link-of-reads.Asked, link-of-reads.Learnt, store-page-token-below t, store-page-token.Post, try-to-merge-page-tokens-reads.Asked, try-to-merge-page-tokens-reads.Learnt)
+store-page-token-calls t = (token-marks-reads.Asked, token-marks-reads.Learnt, set-marks-reads.Asked, set-marks-reads.Learnt, initialize-children-if-needed-reads.Asked, initialize-children-if-needed-reads.Learnt, word-reads.Asked, word-reads.Learnt, link-of-reads.Asked, link-of-reads.Learnt, child-towards-reads.Asked, child-towards-reads.Learnt, store-page-token-below t, store-page-token.Post, try-to-merge-page-tokens-reads.Asked, try-to-merge-page-tokens-reads.Learnt)
 
 -- what the call below asks for and gives
-down : (t : ℕ) (c : store-page-token-lts.After-link-of (store-page-token-calls t) (store-page-token-at t) store-page-token.Post) →
-    (let s = c .before .before .before .before .before .before .before .before .before .before .args in let i = c .before .before .before .before .before .before .initialize-children-if-needed in let f = c .before .before .before .frames-of in
-    Down (s .level) (s .code) (s .pool .now) (s .used) (s .q .0) (s .base .0) (i .last .0) (i .result) (s .level - 1) (c .link-of .result + 1 + s .base .0 / f .result) (s .base .0 % f .result))
+down : (t : ℕ) (c : store-page-token-lts.After-child-towards (store-page-token-calls t) (store-page-token-at t) store-page-token.Post) →
+    (let s = c .before .before .before .before .before .before .before .before .before .before .args in let i = c .before .before .before .before .before .before .initialize-children-if-needed in let k = c .child-towards .result in
+    Down (s .level) (s .code) (s .pool .now) (s .used) (s .q .0) (s .base .0) (i .last .0) (i .result) (s .level - 1) (k .child .0) (k .within .0))
 down t c =
     let s = c .before .before .before .before .before .before .before .before .before .before in
     let a = s .args in
     let i = c .before .before .before .before .before .before .initialize-children-if-needed in
-    let f = c .before .before .before .frames-of in
-    let e = frames-below (a .level) (f .result) (omega arith) (f .ensures .0) in
-    store-down-at (a .level) (a .code) (a .pool .now) (a .used) (a .q .0) (a .base .0) (i .last .0) (i .result) (a .level - 1) (c .link-of .result + 1 + a .base .0 / f .result) (a .base .0 % f .result)
-    (s .pre .1) (omega arith) (i .ensures .0) (i .ensures .1) (sub-one (a .level))
-    (omega (arith, c .link-of .ensures .0, c .before .word .ensures, ap (λ (x : ℕ). a .base .0 / x) e)) (ap (λ (x : ℕ). a .base .0 % x) e)
+    let to = c .child-towards in
+    let l : a .code < a .level = omega (arith, s .pre .1 .deep, c .before .before .before .before .before .before .before .before .if1 .left) in
+    let e = frames-below (a .level) (omega (arith, s .pre .1 .lo)) in
+    store-down-at (a .level) (a .code) (a .pool .now) (a .used) (a .q .0) (a .base .0) (i .last .0) (i .result) (a .level - 1) (to .result .child .0) (to .result .within .0)
+    (s .pre .1) l (i .ensures .0) (i .ensures .1) (sub-one (a .level))
+    (omega (arith, to .ensures .0, c .before .link-of .ensures .0, c .before .before .word .ensures, ap (λ (x : ℕ). a .base .0 / x) e)) (to .ensures .1 ∙ ap (λ (x : ℕ). a .base .0 % x) e)
 
 store-page-token-token-marks-requires : (t : ℕ) → store-page-token-lts.Need-token-marks-requires (store-page-token-calls t) (store-page-token-at t) store-page-token.Post
 store-page-token-token-marks-requires t c κs = omega arith
@@ -90,29 +91,16 @@ store-page-token-initialize-children-if-needed-requires t c κs =
     let a = s .args in
     open-ask (a .level) (a .code) (a .pool .now) (a .used) (a .q .0) (a .base .0) (s .pre .1) (omega arith)
 
-store-page-token-sub-frames-of : (t : ℕ) → store-page-token-lts.Need-sub-frames-of (store-page-token-calls t) (store-page-token-at t) store-page-token.Post
-store-page-token-sub-frames-of t c = omega arith
-
-store-page-token-frames-of-requires : (t : ℕ) → store-page-token-lts.Need-frames-of-requires (store-page-token-calls t) (store-page-token-at t) store-page-token.Post
-store-page-token-frames-of-requires t c κs = omega arith
-
-store-page-token-div-number : (t : ℕ) → store-page-token-lts.Need-div-number (store-page-token-calls t) (store-page-token-at t) store-page-token.Post
-store-page-token-div-number t c = omega arith
-
 store-page-token-word-requires : (t : ℕ) → store-page-token-lts.Need-word-requires (store-page-token-calls t) (store-page-token-at t) store-page-token.Post
-store-page-token-word-requires t c κs = let s = c .before .before .before .before .before .before .before .before in omega (arith, c .before .before .before .before .initialize-children-if-needed .kept .0, s .pre .1 .readable .at, s .pre .1 .readable .fit)
+store-page-token-word-requires t c κs = let s = c .before .before .before .before .before .before .before in omega (arith, c .before .before .before .initialize-children-if-needed .kept .0, s .pre .1 .readable .at, s .pre .1 .readable .fit)
 
 store-page-token-link-of-requires : (t : ℕ) → store-page-token-lts.Need-link-of-requires (store-page-token-calls t) (store-page-token-at t) store-page-token.Post
 store-page-token-link-of-requires t c κs = tt
 
-store-page-token-add-child : (t : ℕ) → store-page-token-lts.Need-add-child (store-page-token-calls t) (store-page-token-at t) store-page-token.Post
-store-page-token-add-child t c = omega arith
-
-store-page-token-add-child-2 : (t : ℕ) → store-page-token-lts.Need-add-child-2 (store-page-token-calls t) (store-page-token-at t) store-page-token.Post
-store-page-token-add-child-2 t c = let k = down t c .ask in omega (arith, k .readable .at, k .readable .fit, k .cap)
-
-store-page-token-rem-within : (t : ℕ) → store-page-token-lts.Need-rem-within (store-page-token-calls t) (store-page-token-at t) store-page-token.Post
-store-page-token-rem-within t c = omega arith
+store-page-token-child-towards-requires : (t : ℕ) → store-page-token-lts.Need-child-towards-requires (store-page-token-calls t) (store-page-token-at t) store-page-token.Post
+store-page-token-child-towards-requires t c κs =
+    let s = c .before .before .before .before .before .before .before .before .before in
+    omega (arith, s .pre .1 .base, frames-own (s .args .level) (omega arith))
 
 store-page-token-sub-store-page-token : (t : ℕ) → store-page-token-lts.Need-sub-store-page-token (store-page-token-calls t) (store-page-token-at t) store-page-token.Post
 store-page-token-sub-store-page-token t c = omega arith
@@ -144,14 +132,9 @@ pub +store-page-token-spec : {M : Type 1} → statement M
     (store-page-token-same-length t)
     (store-page-token-returns t)
     (store-page-token-initialize-children-if-needed-requires t)
-    (store-page-token-sub-frames-of t)
-    (store-page-token-frames-of-requires t)
-    (store-page-token-div-number t)
     (store-page-token-word-requires t)
     (store-page-token-link-of-requires t)
-    (store-page-token-add-child t)
-    (store-page-token-add-child-2 t)
-    (store-page-token-rem-within t)
+    (store-page-token-child-towards-requires t)
     (store-page-token-sub-store-page-token t)
     (store-page-token-store-page-token-requires t)
     (store-page-token-try-to-merge-page-tokens-requires t)

@@ -4,8 +4,8 @@ use mathlib.Core.Path.{ap, _∙_, refl}
 use Prim.Native.Nat.{ℕ, _+_}
 use native.Mathlib.Omega.{arith}
 use lib.ListN.{set, length-set}
-use Rattle.pages.specs.Words.{word}
-use Rattle.pages.proofs.Ask.{new-link, open-with}
+use Rattle.pages.specs.Words.{pack, word}
+use Rattle.pages.proofs.Ask.{open-with}
 use borrow.Author.Needs.{needs}
 use Rattle.pages.proofs.node.open_node.Statement.{statement}
 use Rattle.pages.proofs.node.open_node.Tie as tie
@@ -43,8 +43,10 @@ fill-children-requires c κs = let s = c .before .before .before .before .before
 pack-requires-2 : tie.Need-pack-requires-2
 pack-requires-2 c κs = search needs
 
+-- the node has no link yet, and any place of the pool fits into one
 add-pool : tie.Need-add-pool
-add-pool c = let s = c .before .before .before .before .before .before .before .before .before .before in omega (arith, s .pre .1, s .pre .0 .fit, s .pre .0 .cap, c .pack2 .ensures, new-link (s .args .used))
+unfolding pack
+add-pool c = let s = c .before .before .before .before .before .before .before .before .before .before in omega (arith, c .pack2 .ensures, s .pre .1, s .pre .0 .fit, s .pre .0 .cap)
 
 mul-pool-2 : tie.Need-mul-pool-2
 mul-pool-2 c = search needs

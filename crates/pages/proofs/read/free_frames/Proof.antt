@@ -1,13 +1,14 @@
 -- `free_frames` sweeps from block to block: what it has counted and the frames of the blocks left are those of the tree. The measure is the words left. Assumes nothing.
 use mathlib.Core.Path.{_≡_, ap, ap₂, _∙_}
-use Prim.Native.Nat.{ℕ, _+_, _*_, _-_}
+use Prim.Native.Nat.{ℕ, _*_, _-_}
 use native.Mathlib.Omega.{arith}
 use borrow.Author.Needs.{needs}
 use Rattle.sizes.proofs.Six.{largest-most}
 use Rattle.sizes.specs.Six.{six}
 use Rattle.model.specs.Ladder.{frames, top}
-use Rattle.pages.specs.Words.{levelOf, tokenOf, word}
-use Rattle.pages.proofs.FreeFrames.{Here, Swept, frames-six, root-frames, swept-end, swept-here, swept-next, swept-start, swept-turn, top-six}
+use Rattle.pages.specs.Words.{framesOf, levelOf, tokenOf, word}
+use Rattle.pages.proofs.FreeFrames.{Here, Swept, swept-end, swept-here, swept-next, swept-start, swept-turn}
+use Rattle.pages.proofs.Sizes.{root-level, top-frames}
 use Rattle.pages.proofs.read.free_frames.Statement.{statement}
 use Rattle.pages.proofs.read.free_frames.Tie as tie
 use Rattle.pages.proofs.read.free_frames.Reads as reads
@@ -43,7 +44,7 @@ loop-holds : tie.Need-loop-holds Inv-loop μ-loop
 loop-holds c =
     let a = c .before .before .before .before .before in
     let token : c .before .token-of .result ≡ tokenOf (word (a .args .pool .now) 0) = c .before .token-of .ensures .0 ∙ ap tokenOf (c .before .before .word .ensures) in
-    let size : c .frames-of .result ≡ frames six (top six) = c .frames-of .ensures .0 ∙ root-frames (c .before .before .before .largest .result) (c .before .before .before .largest .ensures .0) in
+    let size : c .frames-of .result ≡ frames six (top six) = c .frames-of .ensures .0 ∙ ap (framesOf six) (c .before .before .before .largest .ensures .0 ∙ largest-most ∙ root-level) in
     swept-start six (top six) (a .args .pool .now) (a .args .used) (a .pre) (c .before .token-of .result * c .frames-of .result) (ap₂ (λ (x y : ℕ). x * y) token size)
 
 -- the next turn
@@ -71,7 +72,7 @@ frames-of-requires : tie.Need-frames-of-requires Inv-loop μ-loop
 frames-of-requires c κs = omega (arith, c .before .before .largest .ensures .0, largest-most)
 
 mul-total : tie.Need-mul-total Inv-loop μ-loop
-mul-total c = let r = loop-holds c in omega (arith, frames-six, r .most)
+mul-total c = let r = loop-holds c in omega (arith, top-frames, r .most)
 
 word-requires-2 : tie.Need-word-requires-2 Inv-loop μ-loop
 word-requires-2 c κs = omega arith
@@ -90,7 +91,7 @@ level-of-requires : tie.Need-level-of-requires Inv-loop μ-loop
 level-of-requires c κs = tt
 
 fan-out-of-requires : tie.Need-fan-out-of-requires Inv-loop μ-loop
-fan-out-of-requires c κs = let r = here c in omega (arith, r .low, r .high, top-six)
+fan-out-of-requires c κs = let r = here c in omega (arith, r .low, r .high, root-level)
 
 add-first : tie.Need-add-first Inv-loop μ-loop
 add-first c = search needs
@@ -105,13 +106,13 @@ sub-frames-of : tie.Need-sub-frames-of Inv-loop μ-loop
 sub-frames-of c = let r = here (c .before .before) in omega (arith, r .low)
 
 frames-of-requires-2 : tie.Need-frames-of-requires-2 Inv-loop μ-loop
-frames-of-requires-2 c κs = let r = here (c .before .before) in omega (arith, r .low, r .high, top-six)
+frames-of-requires-2 c κs = let r = here (c .before .before) in omega (arith, r .low, r .high, root-level)
 
 mul-total-2 : tie.Need-mul-total-2 Inv-loop μ-loop
-mul-total-2 c = let r = loop-again c in omega (arith, frames-six, r .most)
+mul-total-2 c = let r = loop-again c in omega (arith, top-frames, r .most)
 
 add-total : tie.Need-add-total Inv-loop μ-loop
-add-total c = let r = loop-again c in omega (arith, frames-six, r .most)
+add-total c = let r = loop-again c in omega (arith, top-frames, r .most)
 
 add-s : tie.Need-add-s Inv-loop μ-loop
 add-s c = search needs
@@ -123,7 +124,7 @@ returns : tie.Need-returns Inv-loop μ-loop
 returns c =
     let a = c .before .before .before .before .before .before .before in
     let l = c .before .loop in
-    (swept-end six (top six) (a .args .pool .now) (a .args .used) (a .pre) (l .total) (l .s) (l .inv) (omega arith), omega (arith, frames-six, l .inv .most))
+    (swept-end six (top six) (a .args .pool .now) (a .args .used) (a .pre) (l .total) (l .s) (l .inv) (omega arith), omega (arith, top-frames, l .inv .most))
 
 pub free-frames-spec : {M : Type 1} → statement M
 free-frames-spec =

@@ -1,3 +1,4 @@
+-- `largest` reads the root's max. Assumes nothing.
 use mathlib.Core.Path.{ap, _∙_}
 use native.Mathlib.Omega.{arith}
 use borrow.Author.Needs.{needs}
@@ -9,7 +10,7 @@ use Rattle.pages.proofs.read.largest.Statement.{statement}
 use Rattle.pages.proofs.read.largest.Tie as tie
 
 word-requires : tie.Need-word-requires
-word-requires c κs = omega (arith, c .before .pre .shape .low, c .before .pre .shape .high)
+word-requires c κs = let s = c .before .pre .sound .shape in omega (arith, s .low, s .high)
 
 max-of-requires : tie.Need-max-of-requires
 max-of-requires c κs = search needs
@@ -20,7 +21,7 @@ wide-requires c κs = search needs
 returns : tie.Need-returns
 returns c =
     let s = c .before .before .before .before in
-    c .wide .ensures ∙ c .before .max-of .ensures .0 ∙ ap maxOf (c .before .before .word .ensures) ∙ soundW-largest six (top six) (s .args .pool .now) (s .args .used) (s .pre)
+    c .wide .ensures ∙ c .before .max-of .ensures .0 ∙ ap maxOf (c .before .before .word .ensures) ∙ soundW-largest six (top six) (s .args .pool .now) (s .pre .used) (s .pre .sound)
 
 pub largest-spec : {M : Type 1} → statement M
 largest-spec = tie.close (tie.spec word-requires max-of-requires wide-requires returns)

@@ -4,7 +4,6 @@ use mathlib.Core.List.{List}
 use Prim.Native.Nat.{ℕ, _-_, _≤_, _<_}
 use native.Mathlib.Omega.{arith}
 use lib.ListN.{length, drop}
-use Rattle.sizes.specs.Six.{six}
 use Rattle.pages.specs.Limits.{places}
 use Rattle.pages.specs.inner.RegionTest.{zeros}
 use Rattle.pages.proofs.RegionTest.{zeros-start, zeros-stop, zeros-past, zeros-end}
@@ -12,7 +11,7 @@ use Rattle.pages.proofs.region.unused_from.Statement.{statement}
 use Rattle.pages.proofs.region.unused_from.Tie as tie
 
 abbrev Inv-loop : tie.InvT-loop
-Inv-loop starts ends first i₀ i = (i ≤ places) × (zeros six (drop first starts) (drop first ends) ≡ zeros six (drop i starts) (drop i ends))
+Inv-loop starts ends first i₀ i = (i ≤ places) × (zeros (drop first starts) (drop first ends) ≡ zeros (drop i starts) (drop i ends))
 
 abbrev μ-loop : tie.MeasureT-loop
 μ-loop starts ends first i₀ i = places - i
@@ -35,7 +34,7 @@ returns c =
     let i : ℕ = loop .loop .i in
     let ls : i < length ss = omega arith in
     let le : i < length es = omega arith in
-    sym (loop .loop .inv .1 ∙ zeros-start six ss es i ls le (c .if1 .taken))
+    sym (loop .loop .inv .1 ∙ zeros-start ss es i ls le (c .if1 .taken))
 
 mul-if2 : tie.Need-mul-if2 Inv-loop μ-loop
 mul-if2 c = omega arith
@@ -52,7 +51,7 @@ returns-2 c =
     let i : ℕ = loop .loop .i in
     let ls : i < length ss = omega arith in
     let le : i < length es = omega arith in
-    sym (loop .loop .inv .1 ∙ zeros-stop six ss es i ls le (c .before .before .if1 .left) (c .if2 .taken))
+    sym (loop .loop .inv .1 ∙ zeros-stop ss es i ls le (c .before .before .if1 .left) (c .if2 .taken))
 
 add-i : tie.Need-add-i Inv-loop μ-loop
 add-i c = omega arith
@@ -69,7 +68,7 @@ loop-again c =
     let i : ℕ = loop .loop .i in
     let ls : i < length ss = omega arith in
     let le : i < length es = omega arith in
-    (omega arith, loop .loop .inv .1 ∙ zeros-past six ss es i ls le (c .before .before .if1 .left) (c .if2 .left))
+    (omega arith, loop .loop .inv .1 ∙ zeros-past ss es i ls le (c .before .before .if1 .left) (c .if2 .left))
 
 returns-3 : tie.Need-returns-3 Inv-loop μ-loop
 returns-3 c =
@@ -79,7 +78,7 @@ returns-3 c =
     let es : List ℕ = start .args .ends .now in
     let i : ℕ = loop .loop .i in
     let l : length ss ≤ i = omega arith in
-    sym (loop .loop .inv .1 ∙ zeros-end six ss es i l)
+    sym (loop .loop .inv .1 ∙ zeros-end ss es i l)
 
 pub unused-from-spec : {M : Type 1} → statement M
 unused-from-spec =

@@ -9,7 +9,7 @@ use Rattle.sizes.specs.Six.{six}
 use Rattle.pages.specs.Nodes.{childrenFirst}
 use Rattle.pages.specs.Words.{fanOutOf, firstChild}
 use Rattle.pages.proofs.Need.{pick-here, pick-look, PickDown, pick-down-at}
-use Rattle.pages.proofs.SeedNeed.{frames-below}
+use Rattle.pages.proofs.Sizes.{frames-below}
 use borrow.Fn.Kinds.{In}
 use borrow.Fn.PlainCycle.{Measures, is, falls, and}
 use Rattle.pages.proofs.room.first_base.Reads as first-base
@@ -60,7 +60,7 @@ down t c =
     let l : a .code < a .level = look t e .0 in
     pick-down-at (a .level) (a .code) (a .pool .now) (a .q .0) (k .result + 1) (c .before .before .fan-out-of .result) (i .result) (c .frames-of .result) (a .level - 1) (k .result + 1 + i .result)
     (s .pre .1) (λ z. e .if1 .left (omega (arith, e .before .token-of .ensures .0, v .ensures))) l (omega (arith, k .ensures .0, v .ensures)) (c .before .before .fan-out-of .ensures .0) (i .ensures)
-    (frames-below (a .level) (c .frames-of .result) (omega (arith, s .pre .1 .lo)) (c .frames-of .ensures .0)) (sub-one (a .level)) refl
+    (c .frames-of .ensures .0 ∙ frames-below (a .level) (omega (arith, s .pre .1 .lo))) (sub-one (a .level)) refl
 
 first-base-word-requires : (t : ℕ) → first-base-lts.Need-word-requires (first-base-calls t) (first-base-at t) first-base.Post
 first-base-word-requires t c κs = let s = c .before in omega (arith, s .pre .1 .readable .at, s .pre .1 .readable .fit)
@@ -98,23 +98,24 @@ first-base-frames-of-requires t c κs = let s = c .before .before .before .befor
 first-base-add-child : (t : ℕ) → first-base-lts.Need-add-child (first-base-calls t) (first-base-at t) first-base.Post
 first-base-add-child t c = let k = down t c .ask in omega (arith, k .readable .at, k .readable .fit)
 
-first-base-mul-result : (t : ℕ) → first-base-lts.Need-mul-result (first-base-calls t) (first-base-at t) first-base.Post
-first-base-mul-result t c = omega (arith, down t c .small)
-
 first-base-sub-first-base : (t : ℕ) → first-base-lts.Need-sub-first-base (first-base-calls t) (first-base-at t) first-base.Post
 first-base-sub-first-base t c = let s = c .before .before .before .before .before .before .before .before in omega (arith, s .pre .1 .lo, s .pre .1 .deep)
 
 first-base-first-base-requires : (t : ℕ) → first-base-lts.Need-first-base-requires (first-base-calls t) (first-base-at t) first-base.Post
 first-base-first-base-requires t c κs = let s = c .before .before .before .before .before .before .before .before in (omega (arith, s .pre .1 .lo, s .pre .1 .deep), down t c .ask)
 
-first-base-add-result : (t : ℕ) → first-base-lts.Need-add-result (first-base-calls t) (first-base-at t) first-base.Post
-first-base-add-result t c = omega (arith, down t (c .before) .small, c .first-base .ensures .0)
+first-base-mul-base : (t : ℕ) → first-base-lts.Need-mul-base (first-base-calls t) (first-base-at t) first-base.Post
+first-base-mul-base t c = omega (arith, down t (c .before) .small)
+
+first-base-add-base : (t : ℕ) → first-base-lts.Need-add-base (first-base-calls t) (first-base-at t) first-base.Post
+first-base-add-base t c = omega (arith, down t (c .before .before) .small, c .before .first-base .ensures .0)
 
 first-base-returns-2 : (t : ℕ) → first-base-lts.Need-returns-2 (first-base-calls t) (first-base-at t) first-base.Post
 first-base-returns-2 t c =
-    let f = c .before in
+    let r = c .before .first-base in
+    let f = c .before .before in
     let d = down t f in
-    (ap (λ (x : ℕ). f .before .first-child-with-room .result * f .frames-of .result + x) (c .first-base .ensures .0) ∙ sym (d .same), omega (arith, d .small, c .first-base .ensures .0))
+    (ap (λ (x : ℕ). f .before .first-child-with-room .result * f .frames-of .result + x) (r .ensures .0) ∙ sym (d .same), omega (arith, d .small, r .ensures .0))
 
 pub +first-base-spec : {M : Type 1} → statement M
 +first-base-spec = close μ-first-base λ t. first-base-lts.spec (first-base-calls t)
@@ -130,8 +131,8 @@ pub +first-base-spec : {M : Type 1} → statement M
     (first-base-sub-frames-of t)
     (first-base-frames-of-requires t)
     (first-base-add-child t)
-    (first-base-mul-result t)
     (first-base-sub-first-base t)
     (first-base-first-base-requires t)
-    (first-base-add-result t)
+    (first-base-mul-base t)
+    (first-base-add-base t)
     (first-base-returns-2 t)

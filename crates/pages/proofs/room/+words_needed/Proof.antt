@@ -1,17 +1,18 @@
 -- words_needed: the words that a store or an acquire opens, read on the way down. Assumes nothing.
-use Prim.Native.Nat.{ℕ, pred, _+_, _-_, _/_, _%_, _<_}
+use Prim.Native.Nat.{ℕ, pred, _-_, _<_}
 use native.Mathlib.Omega.{arith}
 use mathlib.Core.Path.{_≡_, sym, ap, _∙_}
 use Rattle.sizes.specs.Six.{six}
 use Rattle.pages.specs.Room.{openingsW}
 use Rattle.pages.proofs.Need.{NeedDown, need-here, need-shut-law}
 use Rattle.pages.proofs.SeedNeed.{need-below}
+use Rattle.pages.proofs.Sizes.{frames-own}
 use borrow.Fn.Kinds.{In}
 use borrow.Fn.PlainCycle.{Measures, is, falls, and}
 use Rattle.pages.proofs.room.words_needed.Reads as words-needed
 use Rattle.pages.proofs.room.words_needed.Kinds as words-needed-kinds
 use Rattle.pages.proofs.room.+words_needed.Lts-words_needed as words-needed-lts
-use Rattle.pages.proofs.ladder.frames_of.Reads as frames-of-reads
+use Rattle.pages.proofs.ladder.child_towards.Reads as child-towards-reads
 use Rattle.pages.proofs.room.words_below.Reads as words-below-reads
 use Rattle.pages.proofs.word.link_of.Reads as link-of-reads
 use Rattle.pages.proofs.word.word.Reads as word-reads
@@ -34,19 +35,20 @@ words-needed-below t =
     words-needed.Pre
 
 abbrev words-needed-calls : ℕ → words-needed-lts.Claims
-words-needed-calls t = (word-reads.Asked, word-reads.Learnt, link-of-reads.Asked, link-of-reads.Learnt, words-below-reads.Asked, words-below-reads.Learnt, frames-of-reads.Asked, frames-of-reads.Learnt, words-needed-below t, words-needed.Post)
+words-needed-calls t = (word-reads.Asked, word-reads.Learnt, link-of-reads.Asked, link-of-reads.Learnt, words-below-reads.Asked, words-below-reads.Learnt, child-towards-reads.Asked, child-towards-reads.Learnt, words-needed-below t, words-needed.Post)
 
 -- what the call below asks for and gives
-down : (t : ℕ) (c : words-needed-lts.After-frames-of (words-needed-calls t) (words-needed-at t) words-needed.Post) →
-    (let s = c .before .before .before .before .before .before .args in let k = c .before .before .link-of in
-    NeedDown (s .level) (s .code) (s .pool .now) (s .q .0) (s .base .0) (s .level - 1) (k .result + 1 + s .base .0 / c .frames-of .result) (s .base .0 % c .frames-of .result))
+down : (t : ℕ) (c : words-needed-lts.After-child-towards (words-needed-calls t) (words-needed-at t) words-needed.Post) →
+    (let s = c .before .before .before .before .before .before .args in let k = c .child-towards .result in
+    NeedDown (s .level) (s .code) (s .pool .now) (s .q .0) (s .base .0) (s .level - 1) (k .child .0) (k .within .0))
 down t c =
     let s = c .before .before .before .before .before .before in
     let a = s .args in
     let k = c .before .before .link-of in
     let v = c .before .before .before .word in
-    need-below (a .level) (a .code) (a .pool .now) (a .q .0) (a .base .0) (k .result) (c .frames-of .result)
-    (omega arith) (omega arith) (omega (arith, k .ensures .0, v .ensures)) (λ z. c .before .if2 .left z) (c .frames-of .ensures .0) (s .pre .1)
+    let to = c .child-towards in
+    need-below (a .level) (a .code) (a .pool .now) (a .q .0) (a .base .0) (k .result) (to .result .child .0) (to .result .within .0)
+    (omega arith) (omega arith) (omega (arith, k .ensures .0, v .ensures)) (λ z. c .before .if2 .left z) (to .ensures .0) (to .ensures .1) (s .pre .1)
 
 words-needed-returns : (t : ℕ) → words-needed-lts.Need-returns (words-needed-calls t) (words-needed-at t) words-needed.Post
 words-needed-returns t c =
@@ -69,23 +71,10 @@ words-needed-returns-2 t c =
     let s = c .before .before .before .before .before .before .args in
     (c .words-below .ensures .0 ∙ sym (need-shut-law (s .level) (s .code) (s .pool .now) (s .q .0) (s .base .0) (omega (arith, k .link-of .ensures .0, k .before .word .ensures))), omega arith)
 
-words-needed-sub-frames-of : (t : ℕ) → words-needed-lts.Need-sub-frames-of (words-needed-calls t) (words-needed-at t) words-needed.Post
-words-needed-sub-frames-of t c = omega arith
-
-words-needed-frames-of-requires : (t : ℕ) → words-needed-lts.Need-frames-of-requires (words-needed-calls t) (words-needed-at t) words-needed.Post
-words-needed-frames-of-requires t c κs = omega arith
-
-words-needed-div-number : (t : ℕ) → words-needed-lts.Need-div-number (words-needed-calls t) (words-needed-at t) words-needed.Post
-words-needed-div-number t c = omega arith
-
-words-needed-add-child : (t : ℕ) → words-needed-lts.Need-add-child (words-needed-calls t) (words-needed-at t) words-needed.Post
-words-needed-add-child t c = omega arith
-
-words-needed-add-child-2 : (t : ℕ) → words-needed-lts.Need-add-child-2 (words-needed-calls t) (words-needed-at t) words-needed.Post
-words-needed-add-child-2 t c = omega (arith, down t c .low)
-
-words-needed-rem-within : (t : ℕ) → words-needed-lts.Need-rem-within (words-needed-calls t) (words-needed-at t) words-needed.Post
-words-needed-rem-within t c = omega arith
+words-needed-child-towards-requires : (t : ℕ) → words-needed-lts.Need-child-towards-requires (words-needed-calls t) (words-needed-at t) words-needed.Post
+words-needed-child-towards-requires t c κs =
+    let s = c .before .before .before .before .before in
+    omega (arith, s .pre .1 .base, frames-own (s .args .level) (omega arith))
 
 words-needed-sub-words-needed : (t : ℕ) → words-needed-lts.Need-sub-words-needed (words-needed-calls t) (words-needed-at t) words-needed.Post
 words-needed-sub-words-needed t c = omega arith
@@ -105,12 +94,7 @@ pub +words-needed-spec : {M : Type 1} → statement M
     (words-needed-link-of-requires t)
     (words-needed-words-below-requires t)
     (words-needed-returns-2 t)
-    (words-needed-sub-frames-of t)
-    (words-needed-frames-of-requires t)
-    (words-needed-div-number t)
-    (words-needed-add-child t)
-    (words-needed-add-child-2 t)
-    (words-needed-rem-within t)
+    (words-needed-child-towards-requires t)
     (words-needed-sub-words-needed t)
     (words-needed-words-needed-requires t)
     (words-needed-returns-3 t)

@@ -1,17 +1,18 @@
 -- words_needed_after: the words that the store of a later block of a seed opens, read on the way down. Assumes nothing.
-use Prim.Native.Nat.{ℕ, pred, _+_, _-_, _/_, _%_, _<_}
+use Prim.Native.Nat.{ℕ, pred, _-_, _<_}
 use native.Mathlib.Omega.{arith}
 use mathlib.Core.Path.{_≡_, sym, ap, _∙_}
 use Rattle.sizes.specs.Six.{six}
 use Rattle.pages.specs.Room.{openingsW, openingsAfterW}
 use Rattle.pages.proofs.Need.{NeedDown}
 use Rattle.pages.proofs.SeedNeed.{need-below, needed-first, needed-here, needed-shut, needed-down}
+use Rattle.pages.proofs.Sizes.{frames-own}
 use borrow.Fn.Kinds.{In}
 use borrow.Fn.PlainCycle.{Measures, is, falls, and}
 use Rattle.pages.proofs.room.words_needed_after.Reads as words-needed-after
 use Rattle.pages.proofs.room.words_needed_after.Kinds as words-needed-after-kinds
 use Rattle.pages.proofs.room.+words_needed_after.Lts-words_needed_after as words-needed-after-lts
-use Rattle.pages.proofs.ladder.frames_of.Reads as frames-of-reads
+use Rattle.pages.proofs.ladder.child_towards.Reads as child-towards-reads
 use Rattle.pages.proofs.room.words_below_after.Reads as words-below-after-reads
 use Rattle.pages.proofs.room.words_needed.Reads as words-needed-reads
 use Rattle.pages.proofs.word.link_of.Reads as link-of-reads
@@ -39,20 +40,20 @@ words-needed-after-below t =
     words-needed-after.Pre
 
 abbrev words-needed-after-calls : ℕ → words-needed-after-lts.Claims
-words-needed-after-calls t = (words-needed-reads.Asked, words-needed-reads.Learnt, word-reads.Asked, word-reads.Learnt, link-of-reads.Asked, link-of-reads.Learnt, frames-of-reads.Asked, frames-of-reads.Learnt, words-below-after-reads.Asked, words-below-after-reads.Learnt, words-needed-after-below t, words-needed-after.Post)
+words-needed-after-calls t = (words-needed-reads.Asked, words-needed-reads.Learnt, word-reads.Asked, word-reads.Learnt, link-of-reads.Asked, link-of-reads.Learnt, words-below-after-reads.Asked, words-below-after-reads.Learnt, child-towards-reads.Asked, child-towards-reads.Learnt, words-needed-after-below t, words-needed-after.Post)
 
 -- what the call below asks for
-down : (t : ℕ) (c : words-needed-after-lts.Else3 (words-needed-after-calls t) (words-needed-after-at t) words-needed-after.Post) →
-    (let s = c .before .before .before .before .before .before .before .args in let k = c .before .before .link-of in let f = c .before .frames-of in
-    NeedDown (s .level) (s .code) (s .pool .now) (s .q .0) (s .base .0) (s .level - 1) (k .result + 1 + s .base .0 / f .result) (s .base .0 % f .result))
+down : (t : ℕ) (c : words-needed-after-lts.After-child-towards (words-needed-after-calls t) (words-needed-after-at t) words-needed-after.Post) →
+    (let s = c .before .before .before .before .before .before .before .args in let k = c .child-towards .result in
+    NeedDown (s .level) (s .code) (s .pool .now) (s .q .0) (s .base .0) (s .level - 1) (k .child .0) (k .within .0))
 down t c =
     let s = c .before .before .before .before .before .before .before in
     let a = s .args in
     let k = c .before .before .link-of in
     let v = c .before .before .before .word in
-    let f = c .before .frames-of in
-    need-below (a .level) (a .code) (a .pool .now) (a .q .0) (a .base .0) (k .result) (f .result)
-    (omega arith) (omega arith) (omega (arith, k .ensures .0, v .ensures)) (λ z. c .if3 .left z) (f .ensures .0) (s .pre .1)
+    let to = c .child-towards in
+    need-below (a .level) (a .code) (a .pool .now) (a .q .0) (a .base .0) (k .result) (to .result .child .0) (to .result .within .0)
+    (omega arith) (omega arith) (omega (arith, k .ensures .0, v .ensures)) (λ z. c .before .if3 .left z) (to .ensures .0) (to .ensures .1) (s .pre .1)
 
 words-needed-after-words-needed-requires :
     (t : ℕ) → words-needed-after-lts.Need-words-needed-requires (words-needed-after-calls t) (words-needed-after-at t) words-needed-after.Post
@@ -80,41 +81,23 @@ words-needed-after-word-requires t c κs = let s = c .before .before .before in 
 words-needed-after-link-of-requires : (t : ℕ) → words-needed-after-lts.Need-link-of-requires (words-needed-after-calls t) (words-needed-after-at t) words-needed-after.Post
 words-needed-after-link-of-requires t c κs = tt
 
-words-needed-after-sub-frames-of : (t : ℕ) → words-needed-after-lts.Need-sub-frames-of (words-needed-after-calls t) (words-needed-after-at t) words-needed-after.Post
-words-needed-after-sub-frames-of t c = omega arith
-
-words-needed-after-frames-of-requires : (t : ℕ) → words-needed-after-lts.Need-frames-of-requires (words-needed-after-calls t) (words-needed-after-at t) words-needed-after.Post
-words-needed-after-frames-of-requires t c κs = omega arith
-
-words-needed-after-rem-within : (t : ℕ) → words-needed-after-lts.Need-rem-within (words-needed-after-calls t) (words-needed-after-at t) words-needed-after.Post
-words-needed-after-rem-within t c = omega arith
-
-words-needed-after-sub-words-below-after :
-    (t : ℕ) → words-needed-after-lts.Need-sub-words-below-after (words-needed-after-calls t) (words-needed-after-at t) words-needed-after.Post
-words-needed-after-sub-words-below-after t c = omega arith
-
 words-needed-after-words-below-after-requires :
     (t : ℕ) → words-needed-after-lts.Need-words-below-after-requires (words-needed-after-calls t) (words-needed-after-at t) words-needed-after.Post
 words-needed-after-words-below-after-requires t c κs = omega arith
 
 words-needed-after-returns-3 : (t : ℕ) → words-needed-after-lts.Need-returns-3 (words-needed-after-calls t) (words-needed-after-at t) words-needed-after.Post
 words-needed-after-returns-3 t c =
-    let f = c .before .before in
-    let s = f .before .before .before .before .before .before .args in (
+    let k = c .before .before in
+    let s = k .before .before .before .before .before .args in (
       c .words-below-after .ensures .0
-          ∙ sym (needed-shut (s .level) (s .code) (s .pool .now) (s .q .0) (s .base .0) (f .frames-of .result) (omega arith) (omega arith) (λ z. f .before .before .before .before .if1 .left z)
-          (omega (arith, f .before .link-of .ensures .0, f .before .before .word .ensures)) (f .frames-of .ensures .0)),
+          ∙ sym (needed-shut (s .level) (s .code) (s .pool .now) (s .q .0) (s .base .0) (omega arith) (omega arith) (λ z. k .before .before .before .if1 .left z) (omega (arith, k .link-of .ensures .0, k .before .word .ensures))),
       omega arith,
     )
 
-words-needed-after-div-number : (t : ℕ) → words-needed-after-lts.Need-div-number (words-needed-after-calls t) (words-needed-after-at t) words-needed-after.Post
-words-needed-after-div-number t c = omega arith
-
-words-needed-after-add-child : (t : ℕ) → words-needed-after-lts.Need-add-child (words-needed-after-calls t) (words-needed-after-at t) words-needed-after.Post
-words-needed-after-add-child t c = omega arith
-
-words-needed-after-add-child-2 : (t : ℕ) → words-needed-after-lts.Need-add-child-2 (words-needed-after-calls t) (words-needed-after-at t) words-needed-after.Post
-words-needed-after-add-child-2 t c = omega (arith, down t c .low)
+words-needed-after-child-towards-requires : (t : ℕ) → words-needed-after-lts.Need-child-towards-requires (words-needed-after-calls t) (words-needed-after-at t) words-needed-after.Post
+words-needed-after-child-towards-requires t c κs =
+    let s = c .before .before .before .before .before .before in
+    omega (arith, s .pre .1 .base, frames-own (s .args .level) (omega arith))
 
 words-needed-after-sub-words-needed-after :
     (t : ℕ) → words-needed-after-lts.Need-sub-words-needed-after (words-needed-after-calls t) (words-needed-after-at t) words-needed-after.Post
@@ -126,12 +109,12 @@ words-needed-after-words-needed-after-requires t c κs = (omega arith, down t c 
 
 words-needed-after-returns-4 : (t : ℕ) → words-needed-after-lts.Need-returns-4 (words-needed-after-calls t) (words-needed-after-at t) words-needed-after.Post
 words-needed-after-returns-4 t c =
-    let f = c .before .before in
-    let s = f .before .before .before .before .before .before .args in
-    let k = f .before .link-of in (
+    let to = c .before .child-towards in
+    let k = c .before .before .before in
+    let s = k .before .before .before .before .before .args in (
       c .words-needed-after .ensures .0
-          ∙ sym (needed-down (s .level) (s .code) (s .pool .now) (s .q .0) (s .base .0) (k .result) (f .frames-of .result) (omega arith) (omega arith) (λ z. f .before .before .before .before .if1 .left z)
-          (omega (arith, k .ensures .0, f .before .before .word .ensures)) (λ z. c .before .if3 .left z) (f .frames-of .ensures .0)),
+          ∙ sym (needed-down (s .level) (s .code) (s .pool .now) (s .q .0) (s .base .0) (k .link-of .result) (to .result .child .0) (to .result .within .0) (omega arith) (omega arith)
+          (omega (arith, k .link-of .ensures .0, k .before .word .ensures)) (λ z. c .before .before .if3 .left z) (to .ensures .0) (to .ensures .1) (λ z. k .before .before .before .if1 .left z)),
       omega arith,
     )
 
@@ -144,15 +127,9 @@ pub +words-needed-after-spec : {M : Type 1} → statement M
     (words-needed-after-returns-2 t)
     (words-needed-after-word-requires t)
     (words-needed-after-link-of-requires t)
-    (words-needed-after-sub-frames-of t)
-    (words-needed-after-frames-of-requires t)
-    (words-needed-after-rem-within t)
-    (words-needed-after-sub-words-below-after t)
     (words-needed-after-words-below-after-requires t)
     (words-needed-after-returns-3 t)
-    (words-needed-after-div-number t)
-    (words-needed-after-add-child t)
-    (words-needed-after-add-child-2 t)
+    (words-needed-after-child-towards-requires t)
     (words-needed-after-sub-words-needed-after t)
     (words-needed-after-words-needed-after-requires t)
     (words-needed-after-returns-4 t)

@@ -7,11 +7,11 @@ use native.Mathlib.Omega.{arith}
 use lib.Dec.{ltb}
 use borrow.Author.Tests.{not-true, not-false}
 use Rattle.sizes.specs.Six.{six}
-use Rattle.model.specs.Ladder.{fan, frames}
 use Rattle.pages.specs.Limits.{mostFrames}
 use Rattle.pages.specs.Regions.{regionsOf}
 use Rattle.pages.specs.Words.{fanOutOf, framesOf, linkOf, word}
 use Rattle.pages.specs.inner.Check.{passes, walk, walkBlock}
+use Rattle.pages.proofs.Sizes.{children-frames}
 use Rattle.pages.proofs.Walk.{walk-enter, walk-fails, walk-level, walk-refuse, walk-shut, walkBlock-more, walkBlock-none}
 use borrow.Fn.Kinds.{In}
 use borrow.Fn.PlainCycle.{Measures, is, falls, and}
@@ -42,15 +42,6 @@ one-less (suc k) f h =
     let e : k ≡ suc k - 1 = omega arith in
     let e₂ : suc k * f ≡ f + k * f = omega arith in
     e₂ ∙ ap (λ (j : ℕ). f + j * f) e
-
--- the children of a node have as many frames as the node
-children-frames : (level : ℕ) → 2 ≤ level → framesOf six level ≡ fanOutOf six level * framesOf six (level - 1)
-unfolding frames
-children-frames zero h = absurd (omega arith)
-children-frames (suc zero) h = absurd (omega arith)
-children-frames (suc (suc d)) h =
-    let e : suc d ≡ suc (suc d) - 1 = omega arith in
-    ap (λ (j : ℕ). fan six (suc d) * framesOf six j) e
 
 -- a block is checked at its children's level, and a node at its own: each call falls
 abbrev μ-block-check : Measures 3 block-check-kinds.ps ℕ

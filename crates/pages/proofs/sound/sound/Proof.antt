@@ -1,32 +1,22 @@
 -- The check decides soundness: what its tests have found is what the two theorems of `Decide` ask and give. Assumes nothing.
 use mathlib.Core.Bool.{true≢false}
 use mathlib.Core.List.{List}
-use mathlib.Core.Path.{_≡_, refl, sym, ap, _∙_}
-use Prim.Native.Nat.{ℕ, suc, _-_}
+use mathlib.Core.Path.{sym, ap, _∙_}
+use Prim.Native.Nat.{ℕ, _-_}
 use native.Mathlib.Omega.{arith}
 use lib.Dec.{ltb}
-use Rattle.sizes.specs.Ladder.{fanOut, largest}
-use Rattle.sizes.specs.Six.{six, mostCode}
+use Rattle.sizes.specs.Six.{six}
 use Rattle.sizes.proofs.Six.{largest-most, six-multiplies}
-use Rattle.model.specs.Ladder.{fan, frames, top}
-use Rattle.pages.specs.Limits.{mostFrames, places, poolLimit}
+use Rattle.pages.specs.Limits.{places, poolLimit}
 use Rattle.pages.specs.Regions.{regionsOf}
 use Rattle.pages.specs.Words.{fanOutOf, framesOf}
 use Rattle.pages.specs.inner.Check.{passes, sweep, walk}
 use Rattle.pages.proofs.Decide.{check-sound, sound-check}
+use Rattle.pages.proofs.Sizes.{root-frames, root-level}
 use borrow.Author.Tests.{not-true, not-false}
 use borrow.Author.Needs.{needs}
 use Rattle.pages.proofs.sound.sound.Statement.{statement}
 use Rattle.pages.proofs.sound.sound.Tie as tie
-
--- the root is a node of the largest size, whose frames are all frames
-root-level : mostCode ≡ suc (top six)
-unfolding top largest
-root-level = refl
-
-root-frames : framesOf six mostCode ≡ mostFrames
-unfolding frames fan fanOut
-root-frames = refl
 
 -- the walk from the root
 abbrev rootWalk : (used : ℕ) (starts ends p : List ℕ) (level : ℕ) → ℕ
