@@ -11,6 +11,10 @@ places = 8
 abbrev pub poolLimit : ℕ
 poolLimit = 1048576
 
+-- a link is below it: a word of 32 bits has 25 for it
+abbrev pub linkLimit : ℕ
+linkLimit = 33554432
+
 -- how many frames the largest block has
 abbrev pub mostFrames : ℕ
 mostFrames = mostBytes / getD (six .sizes) 1 0

@@ -4,7 +4,7 @@ ghost use Prim.Native.Nat.{ℕ, suc, _+_, _-_, _/_, _%_, _≤_, _<_};
 ghost use Rattle.sizes.specs.Six.{six, mostCode, mostChildren};
 ghost use Rattle.model.specs.Ladder.{top};
 ghost use Rattle.model.specs.TreeStore.{largestFit};
-ghost use Rattle.pages.specs.Limits.{mostFrames};
+ghost use Rattle.pages.specs.Limits.{linkLimit, mostFrames};
 ghost use Rattle.pages.specs.Words.{fanOutOf, framesOf};
 use sizes::Frame;
 use sizes::Place;
@@ -31,7 +31,7 @@ pub fn frames_of(level: usize) -> u64
 
 // The step down to a child: the link is the node's, and the frame counts from the node's first.
 pub fn child_towards(link: usize, level: usize, base: Frame) -> Toward
-    requires { ⌜ (2 ≤ level) × (level ≤ mostCode) × (base .0 < framesOf six level) × (link < 33554432) ⌝ }
+    requires { ⌜ (2 ≤ level) × (level ≤ mostCode) × (base .0 < framesOf six level) × (link < linkLimit) ⌝ }
     ensures { λ r. ⌜ (r .child .0 ≡ link + 1 + base .0 / framesOf six (level - 1)) × (r .within .0 ≡ base .0 % framesOf six (level - 1)) ⌝ }
 {
     let b = base.0;

@@ -2,6 +2,7 @@
 ghost use mathlib.Core.Path.{_≡_};
 ghost use Prim.Native.Nat.{ℕ, _+_, _≤_, _<_};
 ghost use lib.ListN.{length};
+ghost use Rattle.pages.specs.Limits.{linkLimit};
 ghost use Rattle.pages.specs.Words.{word as word_at, pack as packed, maxOf, tokenOf, levelOf, linkOf};
 ghost use Rattle.pages.specs.Nodes.{withMarks};
 use sizes::Place;
@@ -45,14 +46,14 @@ pub fn level_of(v: u32) -> usize
 }
 
 pub fn link_of(v: u32) -> usize
-    ensures { λ r. ⌜ (r ≡ linkOf v) × (r < 33554432) ⌝ }
+    ensures { λ r. ⌜ (r ≡ linkOf v) × (r < linkLimit) ⌝ }
 {
     wide(v / LINK)
 }
 
 // A node word by its fields.
 pub fn pack(max: u32, token: u32, level: usize, link: usize) -> u32
-    requires { ⌜ (max < 8) × (token < 2) × (level < 8) × (link < 33554432) ⌝ }
+    requires { ⌜ (max < 8) × (token < 2) × (level < 8) × (link < linkLimit) ⌝ }
     ensures { λ r. ⌜ r ≡ packed max token level link ⌝ }
 {
     max + TOKEN * token + LEVEL * narrow(level) + LINK * narrow(link)
