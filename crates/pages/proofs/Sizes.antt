@@ -8,7 +8,7 @@ use Rattle.sizes.specs.Six.{six, mostCode}
 use Rattle.sizes.proofs.Six.{bytes-most, largest-most}
 use Rattle.model.specs.Ladder.{fan, frames, top}
 use Rattle.model.specs.TreeStore.{largestFit}
-use Rattle.model.proofs.Ladder.{frames-pos}
+use Rattle.model.proofs.Ladder.{fan-pos, frames-pos}
 use Rattle.model.proofs.Seed.{largestFit-ok}
 use Rattle.model.proofs.Six.{six-tables}
 use Rattle.pages.specs.Limits.{mostFrames}
@@ -18,6 +18,11 @@ pub fan-out-at : (level : ℕ) → 2 ≤ level → level ≤ mostCode → fanOut
 fan-out-at zero lo hi = absurd (omega arith)
 fan-out-at (suc zero) lo hi = absurd (omega arith)
 fan-out-at (suc (suc d)) lo hi = sym (six-tables .fan-out d (omega (arith, largest-most)))
+
+pub fan-out-some : (level : ℕ) → 2 ≤ level → 1 ≤ fanOutOf six level
+fan-out-some zero lo = absurd (omega arith)
+fan-out-some (suc zero) lo = absurd (omega arith)
+fan-out-some (suc (suc d)) lo = fan-pos six d
 
 pub page : bytes six smallest ≡ 4096
 unfolding bytes

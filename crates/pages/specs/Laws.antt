@@ -76,13 +76,14 @@ module _ (L : Ladder) where
         × (view L d (word (takeW L d d' (words p u) q .words .pool)) q ≡ remove L d d' (view L d (word p) q) (pickW L d d' p q)) × Changes d p u q (takeW L d d' (words p u) q .words)
     -- the words to be opened, and whether a frame of a block is free, are the view's
     pub openings : (d' b : ℕ) → b < frames L d → openingsW L d d' p q b ≡ openings L d d' (view L d (word p) q) b
+    pub any-free : (d' b : ℕ) → b < frames L d → anyFreeW L d d' p q b ≡ anyFree L d d' (view L d (word p) q) b
+    -- used afterwards is used before and the words that were read
     pub stored-used : (d' b : ℕ) → Held d d' p u q b → storeW L d d' (words p u) q b .used ≡ u + openingsW L d d' p q b
     pub taken-used : (d' : ℕ) → Offered d d' p u q → takeW L d d' (words p u) q .words .used ≡ u + openingsW L d d' p q (pickW L d d' p q)
     -- beside the path to the block, what lies below a node whose frames are apart from the block's stays as it is
     pub stored-apart : (d' b m r c x : ℕ) → Held d d' p u q b → Below L p (suc d) q 0 m r c → Apart b (frames L d') c (framesOf L m) → 1 ≤ times L p x m r → word (storeW L d d' (words p u) q b .pool) x ≡ word p x
     pub taken-apart : (d' m r c x : ℕ) → Offered d d' p u q → Below L p (suc d) q 0 m r c → Apart (pickW L d d' p q) (frames L d') c (framesOf L m) → 1 ≤ times L p x m r
         → word (takeW L d d' (words p u) q .words .pool) x ≡ word p x
-    pub any-free : (d' b : ℕ) → b < frames L d → anyFreeW L d d' p q b ≡ anyFree L d d' (view L d (word p) q) b
 
   -- o is what a seed of the frames from a to e leaves of p with u words used
   pub record Seeds (p : List ℕ) (u a e : ℕ) (o : Words) : Type 0 where

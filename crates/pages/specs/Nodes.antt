@@ -15,7 +15,8 @@ pub record Words : Type 0 where
   pub pool : List ℕ
   pub used : ℕ
 
-abbrev pub words : List ℕ → (used : ℕ) → Words
+-- the pool p with u of its words used
+abbrev pub words : List ℕ → (u : ℕ) → Words
 words p u = record { pool = p; used = u }
 
 -- a node's word with other marks: m is its max, and 8 more with a token

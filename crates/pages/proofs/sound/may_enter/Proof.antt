@@ -6,6 +6,7 @@ use Prim.Native.Nat.{ℕ, _+_}
 use native.Mathlib.Omega.{arith}
 use borrow.Author.Tests.{lt-ltb, ltb-true}
 use Rattle.pages.specs.Words.{linkOf, word}
+use Rattle.pages.proofs.Sizes.{fan-out-some}
 use borrow.Author.Needs.{needs}
 use Rattle.pages.proofs.sound.may_enter.Statement.{statement}
 use Rattle.pages.proofs.sound.may_enter.Tie as tie
@@ -30,7 +31,9 @@ returns-3 : tie.Need-returns-3
 returns-3 c = (λ e. absurd (true≢false (sym e)), λ en. absurd (omega (arith, en .fits)))
 
 word-requires : tie.Need-word-requires
-word-requires c κs = search needs
+word-requires c κs =
+    let start = c .before .before .before .before .before in
+    omega (arith, fan-out-some (start .args .level) (omega arith))
 
 wide-requires : tie.Need-wide-requires
 wide-requires c κs = search needs
