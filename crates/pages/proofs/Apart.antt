@@ -19,25 +19,25 @@ use Rattle.model.specs.Ladder.{fan, frames}
 use Rattle.model.specs.Laws.{BlockIn}
 use Rattle.model.specs.Tree.{Sound as SoundTree}
 use Rattle.model.specs.Tree.{largest, pick}
-use Rattle.pages.specs.Laws.{Apart}
-use Rattle.pages.specs.Nodes.{Taken, Words, childrenAll, handIf, handW, mapRun, mergeIf, mergeW, openIf, openW, refreshW, storeW, takeW, words}
-use Rattle.pages.specs.Room.{openingsW}
+use Rattle.pages.proofs.Statements.{Apart}
+use Rattle.pool.specs.Nodes.{Taken, Words, childrenAll, handIf, handW, mapRun, mergeIf, mergeW, openIf, openW, refreshW, storeW, takeW, words}
+use Rattle.pool.specs.Room.{openingsW}
 use Rattle.pages.specs.Sound.{Below, deeper, itself, times}
-use Rattle.pages.specs.View.{view}
-use Rattle.pages.specs.Words.{fanOutOf, firstChild, framesOf, hasToken, linkOf, word}
-use Rattle.pages.specs.inner.Asks.{Maxed}
-use Rattle.pages.specs.inner.Blocks.{By, Child, In, Readable, childIn, delta, met, placesOf, total}
-use Rattle.pages.proofs.Blocks.{delta-same, ok-open, total-open}
-use Rattle.pages.proofs.Change.{total-links}
-use Rattle.pages.proofs.Lists.{mapRun-out}
-use Rattle.pages.proofs.Max.{hand-done}
-use Rattle.pages.proofs.Places.{apart-child, apart-own, places-self, sep-child}
-use Rattle.pages.proofs.Step.{child-agree, child-own, readable-child}
-use Rattle.pages.proofs.Store.{Stored, storeW-done}
-use Rattle.pages.proofs.Sums.{sum-ge}
-use Rattle.pages.proofs.Take.{EnterW, Took, childAt, childPlace, childTree, enterW, enterW-child, handed, takeW-done}
+use Rattle.pool.specs.View.{view}
+use Rattle.pool.specs.Words.{fanOutOf, firstChild, framesOf, hasToken, linkOf, word}
+use Rattle.pool.specs.Asks.{Maxed}
+use Rattle.pool.specs.Blocks.{By, Child, In, Readable, childIn, delta, met, placesOf, total}
+use Rattle.pool.proofs.Blocks.{delta-same, ok-open, total-open}
+use Rattle.pool.proofs.Change.{total-links}
+use Rattle.pool.proofs.Lists.{mapRun-out}
+use Rattle.pool.proofs.Max.{hand-done}
+use Rattle.pool.proofs.Places.{apart-child, apart-own, places-self, sep-child}
+use Rattle.pool.proofs.Step.{child-agree, child-own, readable-child}
+use Rattle.pool.proofs.Store.{Stored, storeW-done}
+use Rattle.pool.proofs.Sums.{sum-ge}
+use Rattle.pool.proofs.Take.{EnterW, Took, childAt, childPlace, childTree, enterW, enterW-child, handed, takeW-done}
 use Rattle.pages.proofs.Times.{times-met}
-use Rattle.pages.proofs.View.{open-words}
+use Rattle.pool.proofs.View.{open-words}
 
 -- ---- a node below q is q, or is a child of q or lies below one
 module _ (L : Ladder) (p : List ℕ) where

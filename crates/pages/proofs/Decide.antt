@@ -11,18 +11,18 @@ use Rattle.sizes.specs.Laws.{MultipliesUp}
 use Rattle.model.specs.Calls.{Region}
 use Rattle.model.specs.Ladder.{top}
 use Rattle.model.specs.TreeStore.{covered}
-use Rattle.pages.specs.Regions.{regionsOf}
+use Rattle.pool.specs.Regions.{regionsOf}
 use Rattle.pages.specs.Sound.{Node, Sound}
-use Rattle.pages.specs.Words.{fanOutOf, framesOf, tokenOf, word}
-use Rattle.pages.specs.inner.Blocks.{By, Ok, Shape, size}
-use Rattle.pages.specs.inner.Check.{SoundW, passes, sweep, walk}
-use Rattle.pages.specs.inner.RegionTest.{regionsPass}
-use Rattle.pages.proofs.Cover.{cover, once-of-cover}
+use Rattle.pool.specs.Words.{fanOutOf, framesOf, tokenOf, word}
+use Rattle.pool.specs.Blocks.{By, Ok, Shape, size}
+use Rattle.pool.specs.Check.{SoundW, passes, sweep, walk}
+use Rattle.pool.specs.RegionTest.{regionsPass}
+use Rattle.pool.proofs.Cover.{cover, once-of-cover}
 use Rattle.pages.proofs.Fields.{Rules, rules-sound, sound-rules, sound-pass}
-use Rattle.pages.proofs.Needed.{size-is, sweep-yes}
+use Rattle.pool.proofs.Needed.{size-is, sweep-yes}
 use Rattle.pages.proofs.Nodes.{all-of, below-all, below-marked, marked-of, marked-rule}
 use Rattle.pages.proofs.Quiet.{node-pos, passes-inside, passes-of, passes-rule}
-use Rattle.pages.proofs.Walk.{All, all-here, walk-ok, walk-yes}
+use Rattle.pool.proofs.Walk.{All, all-here, walk-ok, walk-yes}
 
 -- what the check has found when it says yes
 pub record Checked (L : Ladder) (lies : ℕ → ℕ → Bool) (limit used : ℕ) (starts ends p : List ℕ) : Type 0 where

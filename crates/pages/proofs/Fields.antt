@@ -14,20 +14,20 @@ use Rattle.model.proofs.Regions.{covered-iff}
 use Rattle.model.specs.Calls.{Region}
 use Rattle.model.specs.Ladder.{frames, top}
 use Rattle.model.specs.TreeStore.{covered}
-use Rattle.pages.specs.Nodes.{childrenMax}
-use Rattle.pages.specs.Regions.{regionsOf}
+use Rattle.pool.specs.Nodes.{childrenMax}
+use Rattle.pool.specs.Regions.{regionsOf}
 use Rattle.pages.specs.Sound.{Below, Node, Sound, deeper, itself}
-use Rattle.pages.specs.Words.{fanOutOf, framesOf, linkOf, maxOf, tokenOf, word}
-use Rattle.pages.specs.inner.Blocks.{By, In, Ok, Shape}
-use Rattle.pages.specs.inner.Check.{allBelow, maxBelow}
-use Rattle.pages.specs.inner.RegionTest.{regionsPass}
-use Rattle.pages.proofs.Blocks.{ok-level, ok-make, ok-open, ok-shut, zeroOr}
-use Rattle.pages.proofs.Cover.{covers}
-use Rattle.pages.proofs.Needed.{sees-level}
+use Rattle.pool.specs.Words.{fanOutOf, framesOf, linkOf, maxOf, tokenOf, word}
+use Rattle.pool.specs.Blocks.{By, In, Ok, Shape}
+use Rattle.pool.specs.Check.{allBelow, maxBelow}
+use Rattle.pool.specs.RegionTest.{regionsPass}
+use Rattle.pool.proofs.Blocks.{ok-level, ok-make, ok-open, ok-shut, zeroOr}
+use Rattle.pool.proofs.Cover.{covers}
+use Rattle.pool.proofs.Needed.{sees-level}
 use Rattle.pages.proofs.Nodes.{RuleAt, below-at, below-sees, below-trans}
-use Rattle.pages.proofs.Marks.{off-rule, on-rule, rule-off, rule-on, token-is}
+use Rattle.pool.proofs.Marks.{off-rule, on-rule, rule-off, rule-on, token-is}
 use Rattle.pages.proofs.Quiet.{all-none, all-open, children-zero, max-open, max-shut, node-ok, node-pos, quiet-below}
-use Rattle.pages.proofs.Regions.{regions-fit, regions-if, regions-of}
+use Rattle.pool.proofs.Regions.{regions-fit, regions-if, regions-of}
 use Rattle.pages.proofs.Times.{filled-low, filled-of, filled-once}
 
 -- the blocks are in order, each node keeps the rules of max and token, and regions cover the tokens

@@ -14,26 +14,26 @@ use Rattle.model.specs.Tree.{Sound as SoundTree}
 use Rattle.model.specs.Tree.{Tree, free, largest, pick, remove}
 use Rattle.model.specs.Tree.{words as treeWords}
 use Rattle.model.specs.TreeStore.{seedFrom}
-use Rattle.pages.specs.Laws.{Apart, Changes, Held, Laws, NodeLaws, Offered, PoolLaws, Seeds, placesIn}
-use Rattle.pages.specs.Nodes.{Words, storeW, takeW, words}
-use Rattle.pages.specs.Room.{openingsW, pickW, seedOpeningsW, seedW}
-use Rattle.pages.specs.View.{view}
-use Rattle.pages.specs.Words.{fanOutOf, framesOf, maxOf, word}
-use Rattle.pages.specs.inner.Asks.{Maxed}
-use Rattle.pages.specs.inner.Blocks.{Readable, delta, placesOf}
-use Rattle.pages.specs.inner.Check.{Marked, SoundW}
-use Rattle.pages.proofs.AnyFree.{anyFreeW-is}
-use Rattle.pages.proofs.Kept.{marked-sound, shape-readable, storeW-sound, takeW-sound}
-use Rattle.pages.proofs.Max.{maxed-own}
-use Rattle.pages.proofs.Pick.{pickW-is}
+use Rattle.pages.proofs.Statements.{Apart, Changes, Held, Laws, NodeLaws, Offered, PoolLaws, Seeds, placesIn}
+use Rattle.pool.specs.Nodes.{Words, storeW, takeW, words}
+use Rattle.pool.specs.Room.{openingsW, pickW, seedOpeningsW, seedW}
+use Rattle.pool.specs.View.{view}
+use Rattle.pool.specs.Words.{fanOutOf, framesOf, maxOf, word}
+use Rattle.pool.specs.Asks.{Maxed}
+use Rattle.pool.specs.Blocks.{Readable, delta, placesOf}
+use Rattle.pool.specs.Check.{Marked, SoundW}
+use Rattle.pool.proofs.AnyFree.{anyFreeW-is}
+use Rattle.pool.proofs.Kept.{marked-sound, shape-readable, storeW-sound, takeW-sound}
+use Rattle.pool.proofs.Max.{maxed-own}
+use Rattle.pool.proofs.Pick.{pickW-is}
 use Rattle.pages.proofs.SoundView.{sound-laws}
 use Rattle.pages.proofs.Apart.{stored-apart as store-apart, taken-apart as take-apart}
-use Rattle.pages.proofs.Seeding.{Seeded, openingsW-is, seedW-done, used-seed}
-use Rattle.pages.proofs.Step.{Step, new}
-use Rattle.pages.proofs.Store.{Stored, storeW-done}
-use Rattle.pages.proofs.Take.{Took, takeW-done}
+use Rattle.pool.proofs.Seeding.{Seeded, openingsW-is, seedW-done, used-seed}
+use Rattle.pool.proofs.Step.{Step, new}
+use Rattle.pool.proofs.Store.{Stored, storeW-done}
+use Rattle.pool.proofs.Take.{Took, takeW-done}
 use Rattle.pages.proofs.Times.{times-met}
-use Rattle.pages.proofs.Used.{shape-used, used-store, used-take}
+use Rattle.pool.proofs.Used.{shape-used, used-store, used-take}
 
 module _ (L : Ladder) where
   new-within : (u u' x : ℕ) → u ≤ u' → new u u' x ≡ bit (within u (u' - u) x)

@@ -7,11 +7,11 @@ use Prim.Native.Nat.{ℕ, zero, suc, _+_, _-_, _*_, _≤_, _<_}
 use native.Mathlib.Omega.{arith}
 use Rattle.sizes.specs.Ladder.{Ladder}
 use Rattle.pages.specs.Sound.{Below, itself, deeper}
-use Rattle.pages.specs.Words.{fanOutOf, framesOf, linkOf, word}
-use Rattle.pages.specs.inner.Blocks.{In}
-use Rattle.pages.specs.inner.Check.{Marked, allBelow, marksPass, maxBelow}
-use Rattle.pages.proofs.Blocks.{Sees, here, sees-snoc, zeroOr}
-use Rattle.pages.proofs.Walk.{All, all-child, all-make, all-shut}
+use Rattle.pool.specs.Words.{fanOutOf, framesOf, linkOf, word}
+use Rattle.pool.specs.Blocks.{In}
+use Rattle.pool.specs.Check.{Marked, allBelow, marksPass, maxBelow}
+use Rattle.pool.proofs.Blocks.{Sees, here, sees-snoc, zeroOr}
+use Rattle.pool.proofs.Walk.{All, all-child, all-make, all-shut}
 
 module _ (L : Ladder) (p : List ℕ) where
   -- ---- the ways down

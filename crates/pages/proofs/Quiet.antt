@@ -12,17 +12,17 @@ use Rattle.model.specs.Calls.{Region}
 use Rattle.model.specs.Ladder.{top}
 use Rattle.model.specs.Lists.{maximum}
 use Rattle.model.specs.TreeStore.{covered}
-use Rattle.pages.specs.Nodes.{childrenAll, childrenMax}
+use Rattle.pool.specs.Nodes.{childrenAll, childrenMax}
 use Rattle.pages.specs.Sound.{Below, Node, deeper, itself}
-use Rattle.pages.specs.View.{tab}
-use Rattle.pages.specs.Words.{fanOutOf, linkOf, maxOf, tokenOf, word}
-use Rattle.pages.specs.inner.Blocks.{By, Ok, Shape}
-use Rattle.pages.specs.inner.Check.{allBelow, marksPass, maxBelow, passes}
-use Rattle.pages.proofs.Blocks.{ok-open, sees-ok}
-use Rattle.pages.proofs.Cover.{and-intro, and-true}
-use Rattle.pages.proofs.Lists.{run-tab}
-use Rattle.pages.proofs.Marks.{regions-bare, regions-token, rule-off, rule-on, token-is}
-use Rattle.pages.proofs.Max.{tab-le}
+use Rattle.pool.specs.View.{tab}
+use Rattle.pool.specs.Words.{fanOutOf, linkOf, maxOf, tokenOf, word}
+use Rattle.pool.specs.Blocks.{By, Ok, Shape}
+use Rattle.pool.specs.Check.{allBelow, marksPass, maxBelow, passes}
+use Rattle.pool.proofs.Blocks.{ok-open, sees-ok}
+use Rattle.pool.proofs.Cover.{and-intro, and-true}
+use Rattle.pool.proofs.Lists.{run-tab}
+use Rattle.pool.proofs.Marks.{regions-bare, regions-token, rule-off, rule-on, token-is}
+use Rattle.pool.proofs.Max.{tab-le}
 use Rattle.pages.proofs.Nodes.{RuleAt, below-sees, below-trans}
 
 -- ---- what is below a node, by its link

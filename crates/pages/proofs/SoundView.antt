@@ -23,22 +23,22 @@ use Rattle.model.specs.Frames.{Changed, Wholly}
 use Rattle.model.specs.Ladder.{fan, frames, top}
 use Rattle.model.specs.Tree.{Tree, child, empty, free, largest, node, pick, remove, store}
 use Rattle.model.specs.TreeStore.{seedFrom}
-use Rattle.pages.specs.Laws.{Covered, Held, Offered, SoundLaws}
-use Rattle.pages.specs.Nodes.{storeW, takeW, words}
-use Rattle.pages.specs.Regions.{Regions, regionsOf}
-use Rattle.pages.specs.Room.{openingsW, seedOpeningsW, seedW}
+use Rattle.pages.proofs.Statements.{Covered, Held, Offered, SoundLaws}
+use Rattle.pool.specs.Nodes.{storeW, takeW, words}
+use Rattle.pool.specs.Regions.{Regions, regionsOf}
+use Rattle.pool.specs.Room.{openingsW, seedOpeningsW, seedW}
 use Rattle.pages.specs.Sound.{Below, Node, Sound, deeper, itself}
-use Rattle.pages.specs.View.{block, view}
-use Rattle.pages.specs.Words.{fanOutOf, framesOf, hasToken, linkOf, tokenOf, word}
-use Rattle.pages.specs.inner.Check.{SoundW}
-use Rattle.pages.proofs.Blocks.{zeroOr}
+use Rattle.pool.specs.View.{block, view}
+use Rattle.pool.specs.Words.{fanOutOf, framesOf, hasToken, linkOf, tokenOf, word}
+use Rattle.pool.specs.Check.{SoundW}
+use Rattle.pool.proofs.Blocks.{zeroOr}
 use Rattle.pages.proofs.Decide.{sound-words, words-sound}
-use Rattle.pages.proofs.Kept.{shape-readable, soundW-largest, soundW-tree, storeW-sound, takeW-sound}
+use Rattle.pool.proofs.Kept.{shape-readable, soundW-largest, soundW-tree, storeW-sound, takeW-sound}
 use Rattle.pages.proofs.Nodes.{below-trans}
-use Rattle.pages.proofs.Pick.{pickW-is}
-use Rattle.pages.proofs.Regions.{regions-fit, regions-if}
-use Rattle.pages.proofs.Seeding.{seedW-done, used-seed}
-use Rattle.pages.proofs.Tree.{tab-at, token-view}
+use Rattle.pool.proofs.Pick.{pickW-is}
+use Rattle.pool.proofs.Regions.{regions-fit, regions-if}
+use Rattle.pool.proofs.Seeding.{seedW-done, used-seed}
+use Rattle.pool.proofs.Tree.{tab-at, token-view}
 
 module _ (L : Ladder) (p : List ℕ) where
   -- is frame f free at the node of level l at q, counted from the node's first

@@ -9,12 +9,12 @@ use Rattle.sizes.specs.Ladder.{Ladder}
 use Rattle.model.proofs.Frames.{within-above, within-below, within-in}
 use Rattle.model.specs.Frames.{bit, within}
 use Rattle.pages.specs.Sound.{times}
-use Rattle.pages.specs.Words.{fanOutOf, linkOf, word, sumOver}
-use Rattle.pages.specs.inner.Blocks.{Ok, Once, childIn, delta, met, total}
-use Rattle.pages.proofs.Blocks.{delta-other, delta-same, total-open, total-shut, zeroOr}
-use Rattle.pages.proofs.Needed.{met-place}
-use Rattle.pages.proofs.Opening.{childIn-one, childIn-out}
-use Rattle.pages.proofs.Sums.{sum-cong}
+use Rattle.pool.specs.Words.{fanOutOf, linkOf, word, sumOver}
+use Rattle.pool.specs.Blocks.{Ok, Once, childIn, delta, met, total}
+use Rattle.pool.proofs.Blocks.{delta-other, delta-same, total-open, total-shut, zeroOr}
+use Rattle.pool.proofs.Needed.{met-place}
+use Rattle.pool.proofs.Opening.{childIn-one, childIn-out}
+use Rattle.pool.proofs.Sums.{sum-cong}
 
 -- a block's places are its header's and its children's
 block-met : (x k n : ℕ) → bit (within (suc k) (suc n) x) ≡ delta (suc k) x + childIn x (suc k) n

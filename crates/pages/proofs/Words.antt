@@ -2,8 +2,8 @@
 use mathlib.Core.Path.{_≡_, ap, _∙_}
 use Prim.Native.Nat.{ℕ, _+_, _*_, _/_, _%_, _<_}
 use native.Mathlib.Omega.{arith}
-use Rattle.pages.specs.Laws.{Fields}
-use Rattle.pages.specs.Words.{pack}
+use Rattle.pages.proofs.Statements.{Fields}
+use Rattle.pool.specs.Words.{pack}
 
 -- each field is what is left behind the ones before it
 module _ (m t l k : ℕ) (m8 : m < 8) (t2 : t < 2) (l8 : l < 8) where

@@ -8,9 +8,9 @@ use Rattle.sizes.specs.Ladder.{Ladder}
 use Rattle.model.specs.Ladder.{top}
 use Rattle.model.specs.Frames.{Wholly, within, bit}
 use Rattle.model.specs.Calls.{seeded}
-use Rattle.pages.specs.Words.{word, maxOf, tokenOf, levelOf, linkOf, sumOver, fanOutOf, framesOf}
-use Rattle.pages.specs.Nodes.{childrenMax, childrenAll}
-use Rattle.pages.specs.Regions.{Regions, regionsOf}
+use Rattle.pool.specs.Words.{word, maxOf, tokenOf, levelOf, linkOf, sumOver, fanOutOf, framesOf}
+use Rattle.pool.specs.Nodes.{childrenMax, childrenAll}
+use Rattle.pool.specs.Regions.{Regions, regionsOf}
 
 module _ (L : Ladder) (p : List ℕ) where
   -- the node of level m at the place r, whose first frame is c, is the node of level l at q, whose first frame is b, or lies below it

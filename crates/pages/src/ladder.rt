@@ -4,8 +4,8 @@ ghost use Prim.Native.Nat.{ℕ, suc, _+_, _-_, _/_, _%_, _≤_, _<_};
 ghost use Rattle.sizes.specs.Six.{six, mostCode, mostChildren};
 ghost use Rattle.model.specs.Ladder.{top};
 ghost use Rattle.model.specs.TreeStore.{largestFit};
-ghost use Rattle.pages.specs.Limits.{linkLimit, mostFrames};
-ghost use Rattle.pages.specs.Words.{fanOutOf, framesOf};
+ghost use Rattle.pool.specs.Limits.{linkLimit, mostFrames};
+ghost use Rattle.pool.specs.Words.{fanOutOf, framesOf};
 use sizes::Frame;
 use sizes::Place;
 

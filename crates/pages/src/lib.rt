@@ -11,7 +11,7 @@ ghost use mathlib.Core.Path.{_≡_};
 ghost use mathlib.Core.Bool.{true};
 ghost use lib.Dec.{ltb};
 ghost use Rattle.sizes.specs.Six.{six};
-ghost use Rattle.pages.specs.Limits.{places, poolLimit};
+ghost use Rattle.pool.specs.Limits.{places, poolLimit};
 ghost use Rattle.pages.specs.Sound.{Sound};
 
 // How many region places a state has.

@@ -6,9 +6,9 @@ ghost use lib.ListN.{length, drop};
 ghost use Rattle.sizes.specs.Six.{six};
 ghost use Rattle.model.specs.Lists.{sum};
 ghost use Rattle.model.specs.TreeStore.{overlap, covered as covered_by};
-ghost use Rattle.pages.specs.Limits.{places, mostFrames};
-ghost use Rattle.pages.specs.Regions.{regionsOf};
-ghost use Rattle.pages.specs.inner.RegionTest.{regionPasses, zeros, regionsPass, regionAt};
+ghost use Rattle.pool.specs.Limits.{places, mostFrames};
+ghost use Rattle.pool.specs.Regions.{regionsOf};
+ghost use Rattle.pool.specs.RegionTest.{regionPasses, zeros, regionsPass, regionAt};
 use sizes::Address;
 use sizes::Frame;
 

@@ -2,9 +2,9 @@
 ghost use mathlib.Core.Path.{_≡_};
 ghost use Prim.Native.Nat.{ℕ, suc, pred, _+_, _-_, _*_, _≤_, _<_};
 ghost use Rattle.sizes.specs.Six.{six, mostCode, mostChildren};
-ghost use Rattle.pages.specs.Limits.{mostFrames};
-ghost use Rattle.pages.specs.Room.{path, openingsW, pickW, pathAfter, openingsAfterW, seedOpeningsW};
-ghost use Rattle.pages.specs.inner.Asks.{PickAsk, NeedAsk, SeedAsk};
+ghost use Rattle.pool.specs.Limits.{mostFrames};
+ghost use Rattle.pool.specs.Room.{path, openingsW, pickW, pathAfter, openingsAfterW, seedOpeningsW};
+ghost use Rattle.pool.specs.Asks.{PickAsk, NeedAsk, SeedAsk};
 use crate::ladder::child_towards;
 use crate::ladder::fan_out_of;
 use crate::ladder::frames_of;

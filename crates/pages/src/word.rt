@@ -2,9 +2,9 @@
 ghost use mathlib.Core.Path.{_≡_};
 ghost use Prim.Native.Nat.{ℕ, _+_, _≤_, _<_};
 ghost use lib.ListN.{length};
-ghost use Rattle.pages.specs.Limits.{linkLimit};
-ghost use Rattle.pages.specs.Words.{word as word_at, pack as packed, maxOf, tokenOf, levelOf, linkOf};
-ghost use Rattle.pages.specs.Nodes.{withMarks};
+ghost use Rattle.pool.specs.Limits.{linkLimit};
+ghost use Rattle.pool.specs.Words.{word as word_at, pack as packed, maxOf, tokenOf, levelOf, linkOf};
+ghost use Rattle.pool.specs.Nodes.{withMarks};
 use sizes::Place;
 
 // What a token, a level and a link of 1 add to a word.

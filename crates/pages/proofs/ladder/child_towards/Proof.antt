@@ -3,7 +3,7 @@ use mathlib.Core.Path.{ap}
 use Prim.Native.Nat.{ℕ, _+_, _/_, _%_}
 use native.Mathlib.Nat.{div-le-self}
 use native.Mathlib.Omega.{arith}
-use Rattle.pages.proofs.Sizes.{frames-at}
+use Rattle.pool.proofs.Sizes.{frames-at}
 use borrow.Author.Needs.{needs}
 use Rattle.pages.proofs.ladder.child_towards.Statement.{statement}
 use Rattle.pages.proofs.ladder.child_towards.Tie as tie

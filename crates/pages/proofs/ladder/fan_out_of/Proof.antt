@@ -1,6 +1,6 @@
 -- `fan_out_of` reads the table of fan-outs. Assumes nothing.
 use mathlib.Core.Path.{_∙_}
-use Rattle.pages.proofs.Sizes.{fan-out-at}
+use Rattle.pool.proofs.Sizes.{fan-out-at}
 use borrow.Author.Needs.{needs}
 use Rattle.pages.proofs.ladder.fan_out_of.Statement.{statement}
 use Rattle.pages.proofs.ladder.fan_out_of.Tie as tie

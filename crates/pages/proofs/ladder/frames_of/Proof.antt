@@ -4,8 +4,8 @@ use Prim.Native.Nat.{ℕ, _/_}
 use native.Mathlib.Omega.{arith}
 use Rattle.sizes.specs.Ladder.{bytes}
 use Rattle.sizes.specs.Six.{six}
-use Rattle.pages.specs.Words.{framesOf}
-use Rattle.pages.proofs.Sizes.{page, frames-at}
+use Rattle.pool.specs.Words.{framesOf}
+use Rattle.pool.proofs.Sizes.{page, frames-at}
 use borrow.Author.Needs.{needs}
 use Rattle.pages.proofs.ladder.frames_of.Statement.{statement}
 use Rattle.pages.proofs.ladder.frames_of.Tie as tie

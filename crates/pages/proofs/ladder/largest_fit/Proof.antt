@@ -6,8 +6,8 @@ use Rattle.sizes.specs.Ladder.{largestAt}
 use Rattle.sizes.specs.Six.{six}
 use Rattle.model.specs.Ladder.{top}
 use Rattle.model.specs.TreeStore.{largestFit}
-use Rattle.pages.specs.Words.{framesOf}
-use Rattle.pages.proofs.Sizes.{largest-fit-at}
+use Rattle.pool.specs.Words.{framesOf}
+use Rattle.pool.proofs.Sizes.{largest-fit-at}
 use borrow.Author.Needs.{needs}
 use Rattle.pages.proofs.ladder.largest_fit.Statement.{statement}
 use Rattle.pages.proofs.ladder.largest_fit.Tie as tie

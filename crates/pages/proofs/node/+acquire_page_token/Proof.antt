@@ -7,10 +7,10 @@ use mathlib.Core.List.{List}
 use mathlib.Core.Path.{_≡_, refl, sym, ap, ap₂, _∙_, subst}
 use lib.ListN.{length}
 use Rattle.sizes.specs.Six.{six, mostCode, mostChildren}
-use Rattle.pages.specs.Words.{fanOutOf, firstChild}
-use Rattle.pages.specs.Nodes.{Taken, markW, refreshW, takeW, childrenFirst, words}
-use Rattle.pages.proofs.AskTake.{taken, take-here, take-open, take-run, take-look, TakeDown, take-down-at}
-use Rattle.pages.proofs.Sizes.{frames-below}
+use Rattle.pool.specs.Words.{fanOutOf, firstChild}
+use Rattle.pool.specs.Nodes.{Taken, markW, refreshW, takeW, childrenFirst, words}
+use Rattle.pool.proofs.AskTake.{taken, take-here, take-open, take-run, take-look, TakeDown, take-down-at}
+use Rattle.pool.proofs.Sizes.{frames-below}
 use borrow.Fn.Kinds.{In}
 use borrow.Fn.PlainCycle.{Measures, is, falls, and}
 use Rattle.pages.proofs.node.acquire_page_token.Reads as acquire-page-token

@@ -7,10 +7,10 @@ use mathlib.Core.List.{List}
 use mathlib.Core.Path.{_≡_, sym, ap, _∙_, subst}
 use lib.ListN.{set}
 use Rattle.sizes.specs.Six.{six}
-use Rattle.pages.specs.Words.{word}
-use Rattle.pages.specs.Nodes.{Words, withMarks, markW, storeW, words}
-use Rattle.pages.proofs.Ask.{open-ask, store-here, Down, store-down-at}
-use Rattle.pages.proofs.Sizes.{frames-own, frames-below}
+use Rattle.pool.specs.Words.{word}
+use Rattle.pool.specs.Nodes.{Words, withMarks, markW, storeW, words}
+use Rattle.pool.proofs.Ask.{open-ask, store-here, Down, store-down-at}
+use Rattle.pool.proofs.Sizes.{frames-own, frames-below}
 use borrow.Fn.Kinds.{In}
 use borrow.Fn.PlainCycle.{Measures, is, falls, and}
 use Rattle.pages.proofs.node.store_page_token.Reads as store-page-token

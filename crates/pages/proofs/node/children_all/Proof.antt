@@ -3,8 +3,8 @@ use mathlib.Core.List.{List}
 use mathlib.Core.Path.{_≡_, sym, ap₂, _∙_}
 use Prim.Native.Nat.{ℕ, _+_, _-_, _≤_}
 use native.Mathlib.Omega.{arith}
-use Rattle.pages.specs.Nodes.{childrenAll}
-use Rattle.pages.proofs.Looks.{all-none, all-pass, all-fail}
+use Rattle.pool.specs.Nodes.{childrenAll}
+use Rattle.pool.proofs.Looks.{all-none, all-pass, all-fail}
 use borrow.Author.Needs.{needs}
 use Rattle.pages.proofs.node.children_all.Statement.{statement}
 use Rattle.pages.proofs.node.children_all.Tie as tie

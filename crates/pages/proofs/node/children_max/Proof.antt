@@ -4,8 +4,8 @@ use mathlib.Core.Logic.{⊎-elim}
 use mathlib.Core.Path.{_≡_, ap₂}
 use Prim.Native.Nat.{ℕ, _+_, _-_, _≤_, _<_, max}
 use native.Mathlib.Omega.{arith}
-use Rattle.pages.specs.Nodes.{childrenMax}
-use Rattle.pages.proofs.Looks.{max-none, max-more}
+use Rattle.pool.specs.Nodes.{childrenMax}
+use Rattle.pool.proofs.Looks.{max-none, max-more}
 use borrow.Author.Needs.{needs}
 use Rattle.pages.proofs.node.children_max.Statement.{statement}
 use Rattle.pages.proofs.node.children_max.Tie as tie

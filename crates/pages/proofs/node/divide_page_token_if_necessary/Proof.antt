@@ -4,8 +4,8 @@ use mathlib.Core.Path.{_≡_, sym, ap, ap₂, _∙_}
 use Prim.Native.Nat.{ℕ, pred, _+_}
 use native.Mathlib.Omega.{arith}
 use lib.ListN.{set}
-use Rattle.pages.specs.Nodes.{mapRun, withMarks}
-use Rattle.pages.proofs.Ask.{hand-no, hand-yes}
+use Rattle.pool.specs.Nodes.{mapRun, withMarks}
+use Rattle.pool.proofs.Ask.{hand-no, hand-yes}
 use borrow.Author.Needs.{needs}
 use Rattle.pages.proofs.node.divide_page_token_if_necessary.Statement.{statement}
 use Rattle.pages.proofs.node.divide_page_token_if_necessary.Tie as tie

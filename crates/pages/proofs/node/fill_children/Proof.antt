@@ -3,8 +3,8 @@ use mathlib.Core.Path.{_≡_, refl, sym, ap, _∙_}
 use Prim.Native.Nat.{_-_, _≤_}
 use native.Mathlib.Omega.{arith}
 use lib.ListN.{length}
-use Rattle.pages.specs.Nodes.{mapRun}
-use Rattle.pages.proofs.Lists.{length-mapRun, mapRun-none, mapRun-next}
+use Rattle.pool.specs.Nodes.{mapRun}
+use Rattle.pool.proofs.Lists.{length-mapRun, mapRun-none, mapRun-next}
 use Rattle.pages.proofs.node.fill_children.Statement.{statement}
 use Rattle.pages.proofs.node.fill_children.Tie as tie
 

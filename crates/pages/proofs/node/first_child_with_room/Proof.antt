@@ -3,8 +3,8 @@ use mathlib.Core.List.{List}
 use mathlib.Core.Path.{_≡_, ap₂}
 use Prim.Native.Nat.{ℕ, _+_, _-_, _<_}
 use native.Mathlib.Omega.{arith}
-use Rattle.pages.specs.Nodes.{childrenFirst}
-use Rattle.pages.proofs.Looks.{first-hit, first-miss}
+use Rattle.pool.specs.Nodes.{childrenFirst}
+use Rattle.pool.proofs.Looks.{first-hit, first-miss}
 use borrow.Author.Needs.{needs}
 use Rattle.pages.proofs.node.first_child_with_room.Statement.{statement}
 use Rattle.pages.proofs.node.first_child_with_room.Tie as tie

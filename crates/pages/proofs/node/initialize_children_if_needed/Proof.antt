@@ -2,9 +2,9 @@
 use mathlib.Core.Path.{_≡_, sym, ap, _∙_}
 use Prim.Native.Nat.{ℕ, pred, _+_}
 use native.Mathlib.Omega.{arith}
-use Rattle.pages.specs.Nodes.{Words}
-use Rattle.pages.specs.Words.{word, linkOf}
-use Rattle.pages.proofs.Ask.{open-law, open-not}
+use Rattle.pool.specs.Nodes.{Words}
+use Rattle.pool.specs.Words.{word, linkOf}
+use Rattle.pool.proofs.Ask.{open-law, open-not}
 use borrow.Author.Needs.{needs}
 use Rattle.pages.proofs.node.initialize_children_if_needed.Statement.{statement}
 use Rattle.pages.proofs.node.initialize_children_if_needed.Tie as tie

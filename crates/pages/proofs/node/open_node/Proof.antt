@@ -4,8 +4,8 @@ use mathlib.Core.Path.{ap, _∙_, refl}
 use Prim.Native.Nat.{ℕ, _+_}
 use native.Mathlib.Omega.{arith}
 use lib.ListN.{set, length-set}
-use Rattle.pages.specs.Words.{pack, word}
-use Rattle.pages.proofs.Ask.{open-with}
+use Rattle.pool.specs.Words.{pack, word}
+use Rattle.pool.proofs.Ask.{open-with}
 use borrow.Author.Needs.{needs}
 use Rattle.pages.proofs.node.open_node.Statement.{statement}
 use Rattle.pages.proofs.node.open_node.Tie as tie

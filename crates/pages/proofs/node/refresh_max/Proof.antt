@@ -4,9 +4,9 @@ use mathlib.Core.Path.{sym, ap, _∙_}
 use Prim.Native.Nat.{ℕ, _+_}
 use native.Mathlib.Omega.{arith}
 use lib.ListN.{set}
-use Rattle.pages.specs.Nodes.{withMarks}
-use Rattle.pages.specs.Words.{word}
-use Rattle.pages.proofs.Ask.{refresh-law}
+use Rattle.pool.specs.Nodes.{withMarks}
+use Rattle.pool.specs.Words.{word}
+use Rattle.pool.proofs.Ask.{refresh-law}
 use borrow.Author.Needs.{needs}
 use Rattle.pages.proofs.node.refresh_max.Statement.{statement}
 use Rattle.pages.proofs.node.refresh_max.Tie as tie

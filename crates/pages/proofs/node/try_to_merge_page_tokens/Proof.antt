@@ -5,9 +5,9 @@ use Prim.Native.Nat.{ℕ, _+_}
 use native.Mathlib.Omega.{arith}
 use lib.ListN.{set}
 use borrow.Author.Tests.{not-true, not-false}
-use Rattle.pages.specs.Nodes.{withMarks}
-use Rattle.pages.specs.Words.{word}
-use Rattle.pages.proofs.Ask.{merge-no, merge-yes}
+use Rattle.pool.specs.Nodes.{withMarks}
+use Rattle.pool.specs.Words.{word}
+use Rattle.pool.proofs.Ask.{merge-no, merge-yes}
 use borrow.Author.Needs.{needs}
 use Rattle.pages.proofs.node.try_to_merge_page_tokens.Statement.{statement}
 use Rattle.pages.proofs.node.try_to_merge_page_tokens.Tie as tie

@@ -4,12 +4,12 @@ use native.Mathlib.Omega.{arith}
 use mathlib.Core.Path.{_≡_, sym, ap, _∙_}
 use lib.Dec.{ltb}
 use Rattle.sizes.specs.Six.{six}
-use Rattle.pages.specs.Room.{anyFreeW}
-use Rattle.pages.specs.Words.{word, maxOf}
-use Rattle.pages.proofs.Need.{NeedDown}
-use Rattle.pages.proofs.AnyFree.{free-token, free-here, free-shut}
-use Rattle.pages.proofs.SeedNeed.{need-below, free-below}
-use Rattle.pages.proofs.Sizes.{frames-own}
+use Rattle.pool.specs.Room.{anyFreeW}
+use Rattle.pool.specs.Words.{word, maxOf}
+use Rattle.pool.proofs.Need.{NeedDown}
+use Rattle.pool.proofs.AnyFree.{free-token, free-here, free-shut}
+use Rattle.pool.proofs.SeedNeed.{need-below, free-below}
+use Rattle.pool.proofs.Sizes.{frames-own}
 use borrow.Fn.Kinds.{In}
 use borrow.Fn.PlainCycle.{Measures, is, falls, and}
 use Rattle.pages.proofs.read.any_frame_free.Reads as any-frame-free

@@ -4,7 +4,7 @@ use native.Mathlib.Omega.{arith}
 use borrow.Author.Needs.{needs}
 use Rattle.sizes.specs.Ladder.{bytes}
 use Rattle.sizes.specs.Six.{six, mostBytes}
-use Rattle.pages.proofs.Sizes.{page}
+use Rattle.pool.proofs.Sizes.{page}
 use Rattle.pages.proofs.read.free_bytes.Statement.{statement}
 use Rattle.pages.proofs.read.free_bytes.Tie as tie
 

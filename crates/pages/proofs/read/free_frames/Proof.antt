@@ -6,9 +6,9 @@ use borrow.Author.Needs.{needs}
 use Rattle.sizes.proofs.Six.{largest-most}
 use Rattle.sizes.specs.Six.{six}
 use Rattle.model.specs.Ladder.{frames, top}
-use Rattle.pages.specs.Words.{framesOf, levelOf, tokenOf, word}
-use Rattle.pages.proofs.FreeFrames.{Here, Swept, swept-end, swept-here, swept-next, swept-start, swept-turn}
-use Rattle.pages.proofs.Sizes.{root-level, top-frames}
+use Rattle.pool.specs.Words.{framesOf, levelOf, tokenOf, word}
+use Rattle.pool.proofs.FreeFrames.{Here, Swept, swept-end, swept-here, swept-next, swept-start, swept-turn}
+use Rattle.pool.proofs.Sizes.{root-level, top-frames}
 use Rattle.pages.proofs.read.free_frames.Statement.{statement}
 use Rattle.pages.proofs.read.free_frames.Tie as tie
 use Rattle.pages.proofs.read.free_frames.Reads as reads

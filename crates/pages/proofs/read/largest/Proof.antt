@@ -4,8 +4,8 @@ use native.Mathlib.Omega.{arith}
 use borrow.Author.Needs.{needs}
 use Rattle.sizes.specs.Six.{six}
 use Rattle.model.specs.Ladder.{top}
-use Rattle.pages.specs.Words.{maxOf}
-use Rattle.pages.proofs.Kept.{soundW-largest}
+use Rattle.pool.specs.Words.{maxOf}
+use Rattle.pool.proofs.Kept.{soundW-largest}
 use Rattle.pages.proofs.read.largest.Statement.{statement}
 use Rattle.pages.proofs.read.largest.Tie as tie
 

@@ -2,9 +2,9 @@
 use mathlib.Core.Path.{_≡_, sym, ap, ap₂, _∙_}
 use Prim.Native.Nat.{_+_, _-_, _≤_}
 use native.Mathlib.Omega.{arith}
-use Rattle.pages.specs.Room.{tokensIn}
-use Rattle.pages.specs.Words.{tokenOf, word}
-use Rattle.pages.proofs.FreeFrames.{tokens-none, tokens-more}
+use Rattle.pool.specs.Room.{tokensIn}
+use Rattle.pool.specs.Words.{tokenOf, word}
+use Rattle.pool.proofs.FreeFrames.{tokens-none, tokens-more}
 use Rattle.pages.proofs.read.tokens_in.Statement.{statement}
 use Rattle.pages.proofs.read.tokens_in.Tie as tie
 

@@ -9,9 +9,9 @@ use Rattle.sizes.specs.Ladder.{addressFrame}
 use Rattle.sizes.specs.Six.{six}
 use Rattle.model.specs.Lists.{sum}
 use Rattle.model.specs.TreeStore.{overlap}
-use Rattle.pages.specs.Limits.{places, mostFrames}
-use Rattle.pages.specs.Regions.{regionsOf}
-use Rattle.pages.proofs.RegionTest.{sum-here, sum-past, sum-end}
+use Rattle.pool.specs.Limits.{places, mostFrames}
+use Rattle.pool.specs.Regions.{regionsOf}
+use Rattle.pool.proofs.RegionTest.{sum-here, sum-past, sum-end}
 use Rattle.pages.proofs.region.overlaps.Statement.{statement}
 use Rattle.pages.proofs.region.overlaps.Tie as tie
 

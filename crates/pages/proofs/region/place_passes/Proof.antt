@@ -10,10 +10,10 @@ use borrow.Author.Tests.{not-true, not-false}
 use Rattle.sizes.specs.Six.{six}
 use Rattle.model.specs.Calls.{Region}
 use Rattle.model.specs.TreeStore.{apart}
-use Rattle.pages.specs.Limits.{mostFrames}
-use Rattle.pages.specs.Regions.{regionsOf}
-use Rattle.pages.specs.inner.RegionTest.{regionPasses}
-use Rattle.pages.proofs.RegionTest.{passes-of, six-frames, apart-sum, at-refused, at-passed}
+use Rattle.pool.specs.Limits.{mostFrames}
+use Rattle.pool.specs.Regions.{regionsOf}
+use Rattle.pool.specs.RegionTest.{regionPasses}
+use Rattle.pool.proofs.RegionTest.{passes-of, six-frames, apart-sum, at-refused, at-passed}
 use borrow.Author.Needs.{needs}
 use Rattle.pages.proofs.region.place_passes.Statement.{statement}
 use Rattle.pages.proofs.region.place_passes.Tie as tie

@@ -7,7 +7,7 @@ use native.Mathlib.Omega.{arith}
 use Rattle.sizes.specs.Ladder.{smallest, largest, bytes}
 use Rattle.sizes.specs.Six.{six}
 use Rattle.sizes.proofs.Six.{six-multiplies}
-use Rattle.pages.specs.inner.RegionTest.{regionPasses}
+use Rattle.pool.specs.RegionTest.{regionPasses}
 use Rattle.pages.proofs.region.region_passes.Statement.{statement}
 use Rattle.pages.proofs.region.region_passes.Tie as tie
 

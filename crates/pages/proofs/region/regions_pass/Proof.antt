@@ -7,9 +7,9 @@ use native.Mathlib.Omega.{arith}
 use lib.ListN.{length, drop}
 use borrow.Author.Tests.{not-true, not-false}
 use Rattle.sizes.specs.Six.{six}
-use Rattle.pages.specs.Limits.{places}
-use Rattle.pages.specs.inner.RegionTest.{regionsPass, regionAt}
-use Rattle.pages.proofs.RegionTest.{pass-here, pass-stop, pass-past, pass-end}
+use Rattle.pool.specs.Limits.{places}
+use Rattle.pool.specs.RegionTest.{regionsPass, regionAt}
+use Rattle.pool.proofs.RegionTest.{pass-here, pass-stop, pass-past, pass-end}
 use Rattle.pages.proofs.region.regions_pass.Statement.{statement}
 use Rattle.pages.proofs.region.regions_pass.Tie as tie
 

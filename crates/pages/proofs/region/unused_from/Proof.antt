@@ -4,9 +4,9 @@ use mathlib.Core.List.{List}
 use Prim.Native.Nat.{ℕ, _-_, _≤_, _<_}
 use native.Mathlib.Omega.{arith}
 use lib.ListN.{length, drop}
-use Rattle.pages.specs.Limits.{places}
-use Rattle.pages.specs.inner.RegionTest.{zeros}
-use Rattle.pages.proofs.RegionTest.{zeros-start, zeros-stop, zeros-past, zeros-end}
+use Rattle.pool.specs.Limits.{places}
+use Rattle.pool.specs.RegionTest.{zeros}
+use Rattle.pool.proofs.RegionTest.{zeros-start, zeros-stop, zeros-past, zeros-end}
 use Rattle.pages.proofs.region.unused_from.Statement.{statement}
 use Rattle.pages.proofs.region.unused_from.Tie as tie
 

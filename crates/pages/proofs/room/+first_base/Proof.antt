@@ -6,10 +6,10 @@ use mathlib.Core.List.{List}
 use mathlib.Core.Path.{_≡_, refl, sym, ap, ap₂, _∙_}
 use lib.ListN.{length}
 use Rattle.sizes.specs.Six.{six}
-use Rattle.pages.specs.Nodes.{childrenFirst}
-use Rattle.pages.specs.Words.{fanOutOf, firstChild}
-use Rattle.pages.proofs.Need.{pick-here, pick-look, PickDown, pick-down-at}
-use Rattle.pages.proofs.Sizes.{frames-below}
+use Rattle.pool.specs.Nodes.{childrenFirst}
+use Rattle.pool.specs.Words.{fanOutOf, firstChild}
+use Rattle.pool.proofs.Need.{pick-here, pick-look, PickDown, pick-down-at}
+use Rattle.pool.proofs.Sizes.{frames-below}
 use borrow.Fn.Kinds.{In}
 use borrow.Fn.PlainCycle.{Measures, is, falls, and}
 use Rattle.pages.proofs.room.first_base.Reads as first-base

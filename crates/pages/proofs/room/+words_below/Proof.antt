@@ -4,8 +4,8 @@ use native.Mathlib.Omega.{arith}
 use native.Mathlib.Numerals.{sub-one}
 use mathlib.Core.Path.{sym, ap}
 use Rattle.sizes.specs.Six.{six}
-use Rattle.pages.specs.Room.{path}
-use Rattle.pages.proofs.Need.{below-here, below-down}
+use Rattle.pool.specs.Room.{path}
+use Rattle.pool.proofs.Need.{below-here, below-down}
 use borrow.Fn.Kinds.{In}
 use borrow.Fn.PlainCycle.{Measures, is, falls, and}
 use Rattle.pages.proofs.room.words_below.Reads as words-below

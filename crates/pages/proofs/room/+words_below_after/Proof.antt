@@ -3,8 +3,8 @@ use Prim.Native.Nat.{ℕ, pred, _<_}
 use native.Mathlib.Omega.{arith}
 use mathlib.Core.Path.{_≡_, sym, ap, _∙_}
 use Rattle.sizes.specs.Six.{six}
-use Rattle.pages.specs.Room.{pathAfter}
-use Rattle.pages.proofs.SeedNeed.{after-first, after-here, after-down}
+use Rattle.pool.specs.Room.{pathAfter}
+use Rattle.pool.proofs.SeedNeed.{after-first, after-here, after-down}
 use borrow.Fn.Kinds.{In}
 use borrow.Fn.PlainCycle.{Measures, is, falls, and}
 use Rattle.pages.proofs.room.words_below_after.Reads as words-below-after

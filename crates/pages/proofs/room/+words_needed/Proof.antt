@@ -3,10 +3,10 @@ use Prim.Native.Nat.{ℕ, pred, _-_, _<_}
 use native.Mathlib.Omega.{arith}
 use mathlib.Core.Path.{_≡_, sym, ap, _∙_}
 use Rattle.sizes.specs.Six.{six}
-use Rattle.pages.specs.Room.{openingsW}
-use Rattle.pages.proofs.Need.{NeedDown, need-here, need-shut-law}
-use Rattle.pages.proofs.SeedNeed.{need-below}
-use Rattle.pages.proofs.Sizes.{frames-own}
+use Rattle.pool.specs.Room.{openingsW}
+use Rattle.pool.proofs.Need.{NeedDown, need-here, need-shut-law}
+use Rattle.pool.proofs.SeedNeed.{need-below}
+use Rattle.pool.proofs.Sizes.{frames-own}
 use borrow.Fn.Kinds.{In}
 use borrow.Fn.PlainCycle.{Measures, is, falls, and}
 use Rattle.pages.proofs.room.words_needed.Reads as words-needed

@@ -3,10 +3,10 @@ use Prim.Native.Nat.{ℕ, pred, _-_, _<_}
 use native.Mathlib.Omega.{arith}
 use mathlib.Core.Path.{_≡_, sym, ap, _∙_}
 use Rattle.sizes.specs.Six.{six}
-use Rattle.pages.specs.Room.{openingsW, openingsAfterW}
-use Rattle.pages.proofs.Need.{NeedDown}
-use Rattle.pages.proofs.SeedNeed.{need-below, needed-first, needed-here, needed-shut, needed-down}
-use Rattle.pages.proofs.Sizes.{frames-own}
+use Rattle.pool.specs.Room.{openingsW, openingsAfterW}
+use Rattle.pool.proofs.Need.{NeedDown}
+use Rattle.pool.proofs.SeedNeed.{need-below, needed-first, needed-here, needed-shut, needed-down}
+use Rattle.pool.proofs.Sizes.{frames-own}
 use borrow.Fn.Kinds.{In}
 use borrow.Fn.PlainCycle.{Measures, is, falls, and}
 use Rattle.pages.proofs.room.words_needed_after.Reads as words-needed-after

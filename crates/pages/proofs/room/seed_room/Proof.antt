@@ -3,8 +3,8 @@ use Prim.Native.Nat.{suc, _+_, _*_, _-_, _≤_}
 use native.Mathlib.Omega.{arith}
 use mathlib.Core.Path.{_≡_, refl}
 use Rattle.sizes.specs.Six.{six, mostCode, mostChildren}
-use Rattle.pages.specs.Room.{seedRestW}
-use Rattle.pages.proofs.SeedNeed.{seed-first, seed-next, seed-none, seed-ask}
+use Rattle.pool.specs.Room.{seedRestW}
+use Rattle.pool.proofs.SeedNeed.{seed-first, seed-next, seed-none, seed-ask}
 use Rattle.pages.proofs.room.seed_room.Statement.{statement}
 use Rattle.pages.proofs.room.seed_room.Tie as tie
 

@@ -7,12 +7,12 @@ use native.Mathlib.Omega.{arith}
 use lib.Dec.{ltb}
 use borrow.Author.Tests.{not-true, not-false}
 use Rattle.sizes.specs.Six.{six}
-use Rattle.pages.specs.Limits.{mostFrames}
-use Rattle.pages.specs.Regions.{regionsOf}
-use Rattle.pages.specs.Words.{fanOutOf, framesOf, linkOf, word}
-use Rattle.pages.specs.inner.Check.{passes, walk, walkBlock}
-use Rattle.pages.proofs.Sizes.{children-frames}
-use Rattle.pages.proofs.Walk.{walk-enter, walk-fails, walk-level, walk-refuse, walk-shut, walkBlock-more, walkBlock-none}
+use Rattle.pool.specs.Limits.{mostFrames}
+use Rattle.pool.specs.Regions.{regionsOf}
+use Rattle.pool.specs.Words.{fanOutOf, framesOf, linkOf, word}
+use Rattle.pool.specs.Check.{passes, walk, walkBlock}
+use Rattle.pool.proofs.Sizes.{children-frames}
+use Rattle.pool.proofs.Walk.{walk-enter, walk-fails, walk-level, walk-refuse, walk-shut, walkBlock-more, walkBlock-none}
 use borrow.Fn.Kinds.{In}
 use borrow.Fn.PlainCycle.{Measures, is, falls, and}
 use Rattle.pages.proofs.sound.block_check.Reads as block-check

@@ -1,7 +1,7 @@
 -- A token's block lies in the union of the regions. Assumes nothing.
 use mathlib.Core.Path.{sym, _∙_}
 use native.Mathlib.Omega.{arith}
-use Rattle.pages.proofs.Marks.{regions-bare, regions-token}
+use Rattle.pool.proofs.Marks.{regions-bare, regions-token}
 use borrow.Author.Needs.{needs}
 use Rattle.pages.proofs.sound.in_regions.Statement.{statement}
 use Rattle.pages.proofs.sound.in_regions.Tie as tie

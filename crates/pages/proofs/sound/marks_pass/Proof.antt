@@ -5,8 +5,8 @@ use Prim.Native.Nat.{ℕ}
 use native.Mathlib.Omega.{arith}
 use lib.Dec.{eqb}
 use borrow.Author.Tests.{eq-eqb, ne-eqb}
-use Rattle.pages.specs.Words.{maxOf}
-use Rattle.pages.proofs.Marks.{mark-bare, mark-token}
+use Rattle.pool.specs.Words.{maxOf}
+use Rattle.pool.proofs.Marks.{mark-bare, mark-token}
 use borrow.Author.Needs.{needs}
 use Rattle.pages.proofs.sound.marks_pass.Statement.{statement}
 use Rattle.pages.proofs.sound.marks_pass.Tie as tie

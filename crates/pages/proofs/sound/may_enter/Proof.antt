@@ -5,8 +5,8 @@ use mathlib.Core.Path.{sym, ap, _∙_}
 use Prim.Native.Nat.{ℕ, _+_}
 use native.Mathlib.Omega.{arith}
 use borrow.Author.Tests.{lt-ltb, ltb-true}
-use Rattle.pages.specs.Words.{linkOf, word}
-use Rattle.pages.proofs.Sizes.{fan-out-some}
+use Rattle.pool.specs.Words.{linkOf, word}
+use Rattle.pool.proofs.Sizes.{fan-out-some}
 use borrow.Author.Needs.{needs}
 use Rattle.pages.proofs.sound.may_enter.Statement.{statement}
 use Rattle.pages.proofs.sound.may_enter.Tie as tie

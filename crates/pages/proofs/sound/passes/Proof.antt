@@ -7,11 +7,11 @@ use native.Mathlib.Omega.{arith}
 use borrow.Author.Tests.{not-true, not-false}
 use Rattle.sizes.specs.Six.{six}
 use Rattle.model.specs.Calls.{Region}
-use Rattle.pages.specs.Nodes.{childrenAll, childrenMax}
-use Rattle.pages.specs.Regions.{regionsOf}
-use Rattle.pages.specs.Words.{fanOutOf, framesOf, linkOf, word}
-use Rattle.pages.specs.inner.Check.{inRegions, marksPass}
-use Rattle.pages.proofs.Marks.{passes-out, passes-open, passes-shut}
+use Rattle.pool.specs.Nodes.{childrenAll, childrenMax}
+use Rattle.pool.specs.Regions.{regionsOf}
+use Rattle.pool.specs.Words.{fanOutOf, framesOf, linkOf, word}
+use Rattle.pool.specs.Check.{inRegions, marksPass}
+use Rattle.pool.proofs.Marks.{passes-out, passes-open, passes-shut}
 use borrow.Author.Needs.{needs}
 use Rattle.pages.proofs.sound.passes.Statement.{statement}
 use Rattle.pages.proofs.sound.passes.Tie as tie

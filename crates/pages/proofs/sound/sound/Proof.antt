@@ -7,12 +7,12 @@ use native.Mathlib.Omega.{arith}
 use lib.Dec.{ltb}
 use Rattle.sizes.specs.Six.{six}
 use Rattle.sizes.proofs.Six.{largest-most, six-multiplies}
-use Rattle.pages.specs.Limits.{places, poolLimit}
-use Rattle.pages.specs.Regions.{regionsOf}
-use Rattle.pages.specs.Words.{fanOutOf, framesOf}
-use Rattle.pages.specs.inner.Check.{passes, sweep, walk}
+use Rattle.pool.specs.Limits.{places, poolLimit}
+use Rattle.pool.specs.Regions.{regionsOf}
+use Rattle.pool.specs.Words.{fanOutOf, framesOf}
+use Rattle.pool.specs.Check.{passes, sweep, walk}
 use Rattle.pages.proofs.Decide.{check-sound, sound-check}
-use Rattle.pages.proofs.Sizes.{root-frames, root-level}
+use Rattle.pool.proofs.Sizes.{root-frames, root-level}
 use borrow.Author.Tests.{not-true, not-false}
 use borrow.Author.Needs.{needs}
 use Rattle.pages.proofs.sound.sound.Statement.{statement}

@@ -5,9 +5,9 @@ use Prim.Native.Nat.{ℕ, _+_, _-_, _≤_}
 use native.Mathlib.Omega.{arith}
 use Rattle.sizes.specs.Six.{six, mostCode}
 use Rattle.sizes.proofs.Six.{largest-most}
-use Rattle.pages.specs.Words.{fanOutOf, levelOf, word}
-use Rattle.pages.specs.inner.Check.{sweep, tile}
-use Rattle.pages.proofs.Sweep.{sweep-end, sweep-jump, sweep-long, sweep-refuse}
+use Rattle.pool.specs.Words.{fanOutOf, levelOf, word}
+use Rattle.pool.specs.Check.{sweep, tile}
+use Rattle.pool.proofs.Sweep.{sweep-end, sweep-jump, sweep-long, sweep-refuse}
 use Rattle.pages.proofs.sound.sweep.Statement.{statement}
 use Rattle.pages.proofs.sound.sweep.Tie as tie
 

@@ -1,6 +1,6 @@
 -- `pack` is the packed word. Assumes nothing.
 use native.Mathlib.Omega.{arith}
-use Rattle.pages.specs.Words.{pack}
+use Rattle.pool.specs.Words.{pack}
 use borrow.Author.Needs.{needs}
 use Rattle.pages.proofs.word.pack.Statement.{statement}
 use Rattle.pages.proofs.word.pack.Tie as tie

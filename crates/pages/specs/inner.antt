@@ -1,4 +1,0 @@
-pub mod Blocks
-pub mod Check
-pub mod RegionTest
-pub mod Asks

@@ -1,0 +1,11 @@
+pub mod Limits
+pub mod Words
+pub mod Nodes
+pub mod Room
+pub mod View
+pub mod Regions
+pub mod Blocks
+pub mod Check
+pub mod RegionTest
+pub mod Asks
+pub mod Cases
