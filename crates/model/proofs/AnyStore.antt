@@ -27,21 +27,21 @@ nine (reported x y w) = no (λ z. never cc)
 
 module _ (L : Ladder) (most : ℕ) where
   -- a refusal holds nothing new
-  reckon-refused : (c : Call) (k : ℕ) (h : ℕ → Bool) → reckon L c (refused k) h ≡ h
+  pub reckon-refused : (c : Call) (k : ℕ) (h : ℕ → Bool) → reckon L c (refused k) h ≡ h
   reckon-refused (seed a e) k h = refl
   reckon-refused (acquire c) k h = refl
   reckon-refused (release b c) k h = refl
   reckon-refused report k h = refl
 
   -- the frame store's split depends on the frames of memory alone
-  split-same : (g g' : Frames) (h : ℕ → Bool) → Same L g g' → Split L g' h → Split L g h
+  pub split-same : (g g' : Frames) (h : ℕ → Bool) → Same L g g' → Split L g' h → Split L g h
   split-same g g' h s k = record {
     adds = λ f l. rw (s .regions) (omega (arith, k .adds f l, ap bit (s .frames f l)));
     out = k .out;
   }
 
   -- a call of the frame store keeps the split, refused or not
-  split-step : (g : Frames) (h : ℕ → Bool) → Split L g h → (c : Call) → Split L (frameStep L most g c .state) (reckon L c (frameStep L most g c .answer) h)
+  pub split-step : (g : Frames) (h : ℕ → Bool) → Split L g h → (c : Call) → Split L (frameStep L most g c .state) (reckon L c (frameStep L most g c .answer) h)
   unfolding frameStep
   split-step g h k c = go (verdict (refusals L most g c)) refl
     where
@@ -62,7 +62,7 @@ module _ (L : Ladder) (most : ℕ) where
       pub good : Good (r .state)
       pub split : Split L (shown (r .state)) (r .held)
 
-    inv-next : (r : Run S) → Inv r → (c : Call) → Inv (next L step r c)
+    pub inv-next : (r : Run S) → Inv r → (c : Call) → Inv (next L step r c)
     inv-next r i c = record { good = a .keeps (r .state) (i .good) c; split = go (nine (step (r .state) c .answer)) }
       where
         go : Dec (step (r .state) c .answer ≡ refused 9) → Split L (shown (step (r .state) c .state)) (reckon L c (step (r .state) c .answer) (r .held))
@@ -92,7 +92,7 @@ module _ (L : Ladder) (most : ℕ) where
         go (suc k) v u = absurd (never cc)
 
     -- where nothing is held, the free frames are the seeded ones
-    unheld-free : (r : Run S) → Inv r → ((f : ℕ) → r .held f ≡ false) → Same L (shown (r .state)) (record { free = seeded (shown (r .state) .regions); regions = shown (r .state) .regions })
+    pub unheld-free : (r : Run S) → Inv r → ((f : ℕ) → r .held f ≡ false) → Same L (shown (r .state)) (record { free = seeded (shown (r .state) .regions); regions = shown (r .state) .regions })
     unheld-free r i e = record { regions = refl; frames = λ f l. bit-inj (shown (r .state) .free f) (seeded (shown (r .state) .regions) f) (omega (arith, i .split .adds f l, ap bit (e f))) }
       where
         bit-inj : (v w : Bool) → bit v ≡ bit w → v ≡ w

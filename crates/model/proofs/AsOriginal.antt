@@ -18,7 +18,7 @@ use Rattle.model.specs.Demands.{shown, SoundState}
 use Rattle.model.specs.Rust.{_>>=_, gives, ok, err}
 use Rattle.model.specs.StandIns.{TooMuchMemory, OutOfPages, init}
 use Rattle.model.specs.Original.{emptyAllocator}
-use Rattle.model.specs.AsOriginal.{mayMake, Addressable, address, original, told, originals, trees, AsOriginal}
+use Rattle.model.specs.AsOriginal.{mayMake, Said, Addressable, address, Allocator, original, told, originals, tellings, transcript, AsOriginal}
 use Rattle.model.proofs.Regions.{apart-iff}
 use Rattle.model.proofs.Seed.{anyFree-false}
 use Rattle.model.proofs.FrameStore.{same-self, block-stands}
@@ -48,6 +48,16 @@ eighth false false false false e = absurd (omega arith)
 -- an empty tree is an empty allocator
 allocator-empty : (L : Ladder) → allocator L (empty (top L)) ≡ emptyAllocator (suc (top L))
 allocator-empty L = rw (picture-empty L (top L) 0)
+
+-- a call that may not be made does not change what the original tells
+pub skipped-originals : (L : Ladder) (x : Said) (xs : List Said) (self : Allocator L) → mayMake (x .call) (x .answer) ≡ false → originals L (x ∷ xs) self ≡ originals L xs self
+unfolding originals
+skipped-originals L x xs self e = rw e refl
+
+-- nor what the store told
+pub skipped-tellings : (L : Ladder) (x : Said) (xs : List Said) → mayMake (x .call) (x .answer) ≡ false → tellings L (x ∷ xs) ≡ tellings L xs
+unfolding tellings
+skipped-tellings L x xs e = rw e refl
 
 module _ (L : Ladder) (m : MultipliesUp L) (w : Addressable L) (most n : ℕ) where
   -- a call whose outcome is o: the original does the same if it may be made, else the state stays
@@ -120,16 +130,16 @@ module _ (L : Ladder) (m : MultipliesUp L) (w : Addressable L) (most n : ℕ) wh
         go (suc k) = record { agrees = λ q. absurd (false≢true q); stays = λ q. refl }
 
   -- any number of calls, from a sound state on
-  same-calls : (cs : List Call) (s : State L) → SoundState L most n s → originals L most n cs s (allocator L (s .tree)) ≡ gives (trees L most n cs s)
-  unfolding originals trees
+  same-calls : (cs : List Call) (s : State L) → SoundState L most n s → originals L (transcript L most n cs s) (allocator L (s .tree)) ≡ gives (tellings L (transcript L most n cs s))
+  unfolding originals tellings transcript
   same-calls [] s i = refl
-  same-calls (c ∷ cs) s i = go (mayMake c (step L most n s c .answer)) refl (same-call s i c) (same-calls cs (step L most n s c .state) (demand2 L most n s (shown L s) i (same-self L (shown L s)) c .keeps))
+  same-calls (c ∷ cs) s i = let o = step L most n s c in go (mayMake c (o .answer)) refl (same-call s i c) (same-calls cs (o .state) (demand2 L most n s (shown L s) i (same-self L (shown L s)) c .keeps))
     where
-      go : (x : Bool) → mayMake c (step L most n s c .answer) ≡ x → SameCall s c (step L most n s c)
-          → originals L most n cs (step L most n s c .state) (allocator L (step L most n s c .state .tree)) ≡ gives (trees L most n cs (step L most n s c .state))
-          → originals L most n (c ∷ cs) s (allocator L (s .tree)) ≡ gives (trees L most n (c ∷ cs) s)
+      go : let o = step L most n s c in let said = transcript L most n cs (o .state) in (x : Bool) → mayMake c (o .answer) ≡ x → SameCall s c o
+          → originals L said (allocator L (o .state .tree)) ≡ gives (tellings L said)
+          → originals L (transcript L most n (c ∷ cs) s) (allocator L (s .tree)) ≡ gives (tellings L (transcript L most n (c ∷ cs) s))
       go true x k ih = rw (x, k .agrees x, ih)
-      go false x k ih = rw x (ap (λ u. originals L most n cs (step L most n s c .state) (allocator L (u .tree))) (sym (k .stays x)) ∙ ih)
+      go false x k ih = rw x (ap (λ u. originals L (transcript L most n cs (step L most n s c .state)) (allocator L (u .tree))) (sym (k .stays x)) ∙ ih)
 
 pub as-original : (L : Ladder) (most n : ℕ) → AsOriginal L most n
 as-original L most n m w l cs = rw (← (allocator-empty L)) (same-calls L m w most n cs (fresh L) (fresh-sound L most n l))

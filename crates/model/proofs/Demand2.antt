@@ -110,7 +110,7 @@ module _ (L : Ladder) where
 
     module _ (i : SoundState L most n s) (w : Same L (shown L s) g) where
       -- the tree offers a block of a code exactly if the frame store has one
-      offered : (d : ℕ) → d ≤ top L → (suc d ≤ largest (top L) (s .tree)) ↔ (lowestFree L (g .free) (suc d) < blocks L (suc d))
+      pub offered : (d : ℕ) → d ≤ top L → (suc d ≤ largest (top L) (s .tree)) ↔ (lowestFree L (g .free) (suc d) < blocks L (suc d))
       offered d deep = (
         λ h. let q = pick-lowest L (top L) d (s .tree) (i .sound) h in
             lowestFree-le L (g .free) d deep (pick L (top L) d (s .tree)) (q .aligned) (q .fits) (λ f x y. sym (w .frames f (omega (arith, q .fits))) ∙ q .whole f x y) .1,
@@ -136,7 +136,7 @@ module _ (L : Ladder) where
           go false e (no k) ih = rw (e, largestFree) (ih (omega arith))
 
       -- test 4, of a region that is not empty
-      same-apart : (a e : ℕ) → a < e → apart a e (s .regions) ≡ bare (seeded (g .regions)) a (e - a)
+      pub same-apart : (a e : ℕ) → a < e → apart a e (s .regions) ≡ bare (seeded (g .regions)) a (e - a)
       same-apart a e l =
           let x = apart-iff (memory L) a e (s .regions) (i .fit) l in
           let y = bare-iff (seeded (s .regions)) a (e - a) in
@@ -144,7 +144,7 @@ module _ (L : Ladder) where
           ∙ ap (λ (rs : List Region). bare (seeded rs) a (e - a)) (w .regions)
 
       -- test 6
-      same-covered : (b m : ℕ) → covered (s .regions) b m ≡ whole (seeded (g .regions)) b m
+      pub same-covered : (b m : ℕ) → covered (s .regions) b m ≡ whole (seeded (g .regions)) b m
       same-covered b m =
           let x = covered-iff (memory L) b m (s .regions) (i .fit) in
           let y = whole-iff (seeded (s .regions)) b m in
@@ -152,7 +152,7 @@ module _ (L : Ladder) where
           ∙ ap (λ (rs : List Region). whole (seeded rs) b m) (w .regions)
 
       -- test 7, of a block in memory
-      same-free : (d b : ℕ) → BlockIn L (top L) d b → anyFree L (top L) d (s .tree) b ≡ not (bare (g .free) b (frames L d))
+      pub same-free : (d b : ℕ) → BlockIn L (top L) d b → anyFree L (top L) d (s .tree) b ≡ not (bare (g .free) b (frames L d))
       same-free d b p = go (anyFree L (top L) d (s .tree) b) refl
         where
           go : (v : Bool) → anyFree L (top L) d (s .tree) b ≡ v → anyFree L (top L) d (s .tree) b ≡ not (bare (g .free) b (frames L d))

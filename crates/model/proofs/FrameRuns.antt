@@ -23,7 +23,7 @@ module _ (L : Ladder) (most : ℕ) (g : Frames) where
     pub ends : e ≤ memory L
     pub unseeded : Wholly (seeded (g .regions)) a (e - a) false
 
-  seedable : (a e : ℕ) → verdict (refusals L most g (seed a e)) ≡ 0 → Seedable a e
+  pub seedable : (a e : ℕ) → verdict (refusals L most g (seed a e)) ≡ 0 → Seedable a e
   unfolding refusals
   seedable a e v =
       let t = clear (refusals L most g (seed a e)) (omega arith) v in
@@ -55,7 +55,7 @@ module _ (L : Ladder) (most : ℕ) (g : Frames) where
     pub inside : Wholly (seeded (g .regions)) b (size L c) true
     pub taken : Wholly (g .free) b (size L c) false
 
-  releasable : (b c : ℕ) → verdict (refusals L most g (release b c)) ≡ 0 → Releasable b c
+  pub releasable : (b c : ℕ) → verdict (refusals L most g (release b c)) ≡ 0 → Releasable b c
   unfolding refusals
   releasable b c v =
       let t = clear (refusals L most g (release b c)) (omega arith) v in

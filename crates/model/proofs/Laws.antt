@@ -53,7 +53,7 @@ module _ (L : Ladder) where
   probe-laws = record { bounded = probes-fans L; none = probes-own L }
 
   -- a block fits at an address in bytes exactly if it fits at its frame
-  fits-frames : MultipliesUp L → (a e d : ℕ) → suc d ≤ largest-code L → Fits L (a * bytes L smallest) (e * bytes L smallest) (suc d) ↔ ((a % frames L d ≡ 0) × (a + frames L d ≤ e))
+  pub fits-frames : MultipliesUp L → (a e d : ℕ) → suc d ≤ largest-code L → Fits L (a * bytes L smallest) (e * bytes L smallest) (suc d) ↔ ((a % frames L d ≡ 0) × (a + frames L d ≤ e))
   fits-frames m a e d c = (
     λ x. (aligned (decLt 0 (a % n)) (sym rest ∙ x .aligned), ends (decLt e (a + n)) (x .ends)),
     λ x. record { code = record { low = omega arith; high = c }; aligned = rest ∙ (let z : a % n * p ≡ 0 = ap (λ (k : ℕ). k * p) (x .0) ∙ omega arith in z); ends = omega (arith, size, add-mul a n p, mul-le-mul-right p (x .1)) },

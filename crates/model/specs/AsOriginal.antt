@@ -24,6 +24,11 @@ mayMake c stored = true
 mayMake c (dealt b p) = true
 mayMake c (reported x y z) = true
 
+-- a call, and what the store answered to it
+pub record Said : Type 0 where
+  pub call : Call
+  pub answer : Answer
+
 -- what the original tells its caller: nothing, a page, or an error
 abbrev pub Told : Type 0
 Told = Result (Option Page) Error
@@ -67,23 +72,28 @@ module _ (L : Ladder) where
   told report (dealt b p) = ok none
   told c (reported x y z) = ok none
 
-  -- for a tree store of at most `most` regions and a pool of n words, in the state s
-  module _ (most n : ℕ) where
-    -- what the original tells of the calls that may be made to it
-    unfoldable pub originals : List Call → State L → Allocator → Ends (List Told)
-    originals [] s self = gives []
-    originals (c ∷ cs) s self = let o = step L most n s c in if mayMake c (o .answer)
-        then (do
-          (result, next) ← original c self
-          results ← originals cs (o .state) next
-          gives (result ∷ results))
-        else originals cs (o .state) self
+  -- what the original tells of the calls that may be made to it, in order
+  unfoldable pub originals : List Said → Allocator → Ends (List Told)
+  originals [] self = gives []
+  originals (x ∷ xs) self = if mayMake (x .call) (x .answer)
+      then (do
+        (result, next) ← original (x .call) self
+        results ← originals xs next
+        gives (result ∷ results))
+      else originals xs self
 
-    -- what the tree store tells of the same calls
-    unfoldable pub trees : List Call → State L → List Told
-    trees [] s = []
-    trees (c ∷ cs) s = let o = step L most n s c in if mayMake c (o .answer) then told c (o .answer) ∷ trees cs (o .state) else trees cs (o .state)
+  -- what the store told of the same calls
+  unfoldable pub tellings : List Said → List Told
+  tellings [] = []
+  tellings (x ∷ xs) = if mayMake (x .call) (x .answer) then told (x .call) (x .answer) ∷ tellings xs else tellings xs
+
+  -- for a tree store of at most `most` regions and a pool of n words
+  module _ (most n : ℕ) where
+    -- the calls to a tree store in the state s, each with its answer
+    unfoldable pub transcript : List Call → State L → List Said
+    transcript [] s = []
+    transcript (c ∷ cs) s = let o = step L most n s c in record { call = c; answer = o .answer } ∷ transcript cs (o .state)
 
     -- on a ladder whose sizes multiply up, from an empty allocator on, the original never panics, and each page dealt and each 'out of pages' is the tree store's
     abbrev pub AsOriginal : Type 0
-    AsOriginal = MultipliesUp L → Addressable → 1 ≤ n → (cs : List Call) → originals cs (fresh L) (emptyAllocator (suc (top L))) ≡ gives (trees cs (fresh L))
+    AsOriginal = MultipliesUp L → Addressable → 1 ≤ n → (cs : List Call) → let said = transcript cs (fresh L) in originals said (emptyAllocator (suc (top L))) ≡ gives (tellings said)

@@ -8,3 +8,12 @@ pub mod Decide
 pub mod SoundView
 pub mod Apart
 pub mod Laws
+pub mod Shown
+pub mod Acts
+pub mod Serves
+pub mod DemandTwo
+pub mod Unique
+pub mod Refusals
+pub mod Rooted
+pub mod AskCall
+pub mod AskSeed

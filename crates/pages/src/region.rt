@@ -1,14 +1,16 @@
 // The regions of a state: a start and an end in bytes for each place, in seeding order.
 ghost use mathlib.Core.Path.{_≡_};
 ghost use mathlib.Core.Bool.{true};
-ghost use Prim.Native.Nat.{ℕ, _+_, _-_, _≤_, _<_, min, max};
+ghost use Prim.Native.Nat.{ℕ, _+_, _*_, _-_, _≤_, _<_, min, max};
 ghost use lib.ListN.{length, drop};
+ghost use Rattle.sizes.specs.Ladder.{smallest, bytes};
 ghost use Rattle.sizes.specs.Six.{six};
 ghost use Rattle.model.specs.Lists.{sum};
-ghost use Rattle.model.specs.TreeStore.{overlap, covered as covered_by};
+ghost use Rattle.model.specs.TreeStore.{overlap, covered as covered_by, seededFrames};
 ghost use Rattle.pool.specs.Limits.{places, mostFrames};
 ghost use Rattle.pool.specs.Regions.{regionsOf};
 ghost use Rattle.pool.specs.RegionTest.{regionPasses, zeros, regionsPass, regionAt};
+use crate::ladder::frames_of;
 use sizes::Address;
 use sizes::Frame;
 
@@ -45,7 +47,7 @@ fn shared_frames(base: Frame, size: u64, start: Frame, end: Frame) -> u64
 }
 
 // How many of the block's frames lie in the regions from the place `first` on, region by region.
-fn overlaps(starts: &[u64], ends: &[u64], first: usize, base: Frame, size: u64) -> u64
+pub fn overlaps(starts: &[u64], ends: &[u64], first: usize, base: Frame, size: u64) -> u64
     requires { ⌜ (length (now starts) ≡ places) × (length (now ends) ≡ places) × (first ≤ places) × (base .0 + size ≤ mostFrames) ⌝ }
     ensures { λ r. ⌜ r ≡ sum (overlap (base .0) size) (regionsOf six (drop first (now (starts .entry))) (drop first (now (ends .entry)))) ⌝ }
 {
@@ -71,6 +73,31 @@ pub fn covered(starts: &[u64], ends: &[u64], base: Frame, size: u64) -> bool
     ensures { λ r. ⌜ r ≡ covered_by (regionsOf six (now (starts .entry)) (now (ends .entry))) (base .0) size ⌝ }
 {
     overlaps(starts, ends, 0, base, size) == size
+}
+
+// The bytes of all regions: those of the frames that the whole memory shares with them.
+pub fn seeded_bytes(starts: &[u64], ends: &[u64]) -> u64
+    requires { ⌜ (length (now starts) ≡ places) × (length (now ends) ≡ places) × (regionsPass six (now starts) (now ends) ≡ true) ⌝ }
+    ensures { λ r. ⌜ r ≡ seededFrames (regionsOf six (now (starts .entry)) (now (ends .entry))) * bytes six smallest ⌝ }
+{
+    let memory = frames_of(sizes::largest());
+    let page = sizes::in_bytes(sizes::smallest());
+    overlaps(starts, ends, 0, Frame(0), memory) * page
+}
+
+// How many regions there are: the places before the first whose end is 0.
+pub fn region_count(starts: &[u64], ends: &[u64]) -> usize
+    requires { ⌜ (length (now starts) ≡ places) × (length (now ends) ≡ places) ⌝ }
+    ensures { λ r. ⌜ (r ≡ length (regionsOf six (now (starts .entry)) (now (ends .entry)))) × (r ≤ places) ⌝ }
+{
+    let mut i: usize = 0;
+    while i < starts.len() {
+        if ends[i] == 0 {
+            return i;
+        }
+        i += 1;
+    }
+    i
 }
 
 // Whether all places from `first` on are zero.

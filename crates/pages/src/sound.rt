@@ -27,7 +27,7 @@ use crate::word::word;
 use sizes::Frame;
 use sizes::Place;
 
-const POOL_LIMIT: usize = 1048576;
+pub const POOL_LIMIT: usize = 1048576;
 
 // Whether the words from place 1 up to used are whole blocks.
 fn sweep(pool: &[u32], used: usize) -> bool

@@ -82,7 +82,7 @@ total-mul fan p g c (suc l) q =
 
 -- ---- the tree
 
-count-le : (g : ℕ → Bool) (n : ℕ) → count g n ≤ n
+pub count-le : (g : ℕ → Bool) (n : ℕ) → count g n ≤ n
 unfolding count
 count-le g zero = omega arith
 count-le g (suc n) = omega (arith, bit-le (g n), count-le g n)

@@ -23,11 +23,14 @@ pub mod AnyFree
 pub mod Kept
 pub mod Used
 pub mod Seeding
+pub mod Full
 pub mod Ask
 pub mod AskTake
 pub mod Need
 pub mod SeedNeed
+pub mod SeedSteps
 pub mod RegionTest
 pub mod Regions
 pub mod FreeFrames
+pub mod With
 pub mod Cases

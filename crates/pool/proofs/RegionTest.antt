@@ -106,6 +106,12 @@ module _ (L : Ladder) where
     unfolding sum
     sum-past b n e = rw (regions-past e)
 
+    pub length-here : getD es i 0 ≡ 0 → length (regionsOf L (drop i ss) (drop i es)) ≡ 0
+    length-here e = rw (regions-here e)
+
+    pub length-past : (getD es i 0 ≡ 0 → ⊥) → length (regionsOf L (drop i ss) (drop i es)) ≡ suc (length (regionsOf L (drop (i + 1) ss) (drop (i + 1) es)))
+    length-past e = rw (regions-past e)
+
     pub pass-here : getD es i 0 ≡ 0 → regionsPass L (drop i ss) (drop i es) ≡ zeros (drop i ss) (drop i es)
     unfolding regionsPass
     pass-here e = rw (drop-cons ss i 0 hs, drop-cons es i 0 he) (simp (eq-eqb _ _ e))
@@ -124,6 +130,10 @@ module _ (L : Ladder) where
     pub sum-end : (b n : ℕ) → sum (overlap b n) (regionsOf L (drop i ss) (drop i es)) ≡ 0
     unfolding sum regionsOf
     sum-end b n = rw (drop-of-length-le ss {i = i} h)
+
+    pub length-end : length (regionsOf L (drop i ss) (drop i es)) ≡ 0
+    unfolding regionsOf
+    length-end = rw (drop-of-length-le ss {i = i} h)
 
     pub pass-end : regionsPass L (drop i ss) (drop i es) ≡ true
     unfolding regionsPass

@@ -45,7 +45,7 @@ zeros-if (s ∷ ss) (e ∷ es) h = and-intro (eq-eqb s 0 (h 0 .0)) (and-intro (e
 
 -- an aligned address is the bytes of the frames before it
 module _ (L : Ladder) (m : MultipliesUp L) where
-  frame-bytes : (a : ℕ) → a % bytes L smallest ≡ 0 → addressFrame L a * bytes L smallest ≡ a
+  pub frame-bytes : (a : ℕ) → a % bytes L smallest ≡ 0 → addressFrame L a * bytes L smallest ≡ a
   unfolding addressFrame
   frame-bytes a h = omega (arith, div-add-mod' a (bytes L smallest))
 
@@ -56,15 +56,15 @@ module _ (L : Ladder) (m : MultipliesUp L) where
   frame-lt : (a b : ℕ) → a * bytes L smallest < b * bytes L smallest → a < b
   frame-lt a b h = elim (decLt a b) [ yes k ↦ k | no k ↦ absurd (omega (arith, mul-le-mul-right {m = b} {n = a} (bytes L smallest) (omega arith))) ]
 
-  all-bytes : bytes L (largest L) ≡ frames L (top L) * bytes L smallest
+  pub all-bytes : bytes L (largest L) ≡ frames L (top L) * bytes L smallest
   all-bytes = ap (bytes L) (largest-top L m) ∙ bytes-is L m (top L) (omega (arith, largest-top L m))
 
   -- a region's frames: some, up to the last
-  record InFrames (s e : ℕ) : Type 0 where
+  pub record InFrames (s e : ℕ) : Type 0 where
     pub some : addressFrame L s < addressFrame L e
     pub within : addressFrame L e ≤ frames L (top L)
 
-  in-frames : (s e : ℕ) → Passes L s e → InFrames s e
+  pub in-frames : (s e : ℕ) → Passes L s e → InFrames s e
   in-frames s e w = record {
     some = frame-lt (addressFrame L s) (addressFrame L e) (omega (arith, w .some, frame-bytes s (w .start-aligned), frame-bytes e (w .end-aligned)));
     within = frame-le (addressFrame L e) (frames L (top L)) (omega (arith, w .within, frame-bytes e (w .end-aligned), all-bytes));

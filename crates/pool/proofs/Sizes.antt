@@ -71,7 +71,7 @@ pub top-frames : frames six (top six) ≡ mostFrames
 top-frames = sym (ap (framesOf six) root-level) ∙ root-frames
 
 -- no frame up to the end of the largest block is cut off
-frame-address : (f : ℕ) → f ≤ mostFrames → frameAddress six f ≡ f * bytes six smallest
+pub frame-address : (f : ℕ) → f ≤ mostFrames → frameAddress six f ≡ f * bytes six smallest
 unfolding frameAddress frames-of fanOut largest-code
 frame-address f h = ap (λ (x : ℕ). x * bytes six smallest) (omega arith)
 

@@ -179,9 +179,10 @@ module _ (L : Ladder) where
   pub enterW-child : {d d' : ℕ} {s : Words} {q : ℕ} → (n : EnterW d d' s q) → Child (fanOutOf L) (handed d s q) (suc d) q (childAt d d' s q)
   enterW-child n = record { k = n .k; link = n .link; at = omega (arith, n .link, n .lt) }
 
-  pub enterW : (d d' : ℕ) (s : Words) (q : ℕ) → suc (suc d) < 8 → Readable L (suc d) (s .pool) (s .used) q → ltb d' (suc d) ≡ true → SoundTree L (suc d) (view L (suc d) (word (s .pool)) q) → Maxed L (suc d) (s .pool) q
-      → suc d' ≤ largest (suc d) (view L (suc d) (word (s .pool)) q) → s .used + openingsW L (suc d) d' (s .pool) q (pick L (suc d) d' (view L (suc d) (word (s .pool)) q)) ≤ length (s .pool) → EnterW d d' s q
-  enterW d d' s q small g e sound m h room = record {
+  -- the node is entered where its own opening has room
+  pub enterW-open : (d d' : ℕ) (s : Words) (q : ℕ) → suc (suc d) < 8 → Readable L (suc d) (s .pool) (s .used) q → ltb d' (suc d) ≡ true → SoundTree L (suc d) (view L (suc d) (word (s .pool)) q) → Maxed L (suc d) (s .pool) q
+      → suc d' ≤ largest (suc d) (view L (suc d) (word (s .pool)) q) → openW L d s q .used ≤ length (s .pool) → EnterW d d' s q
+  enterW-open d d' s q small g e sound m h roomO = record {
     room = roomO;
     open-step = o .step;
     hand-step = hd .step;
@@ -227,9 +228,6 @@ module _ (L : Ladder) where
 
       O : Words
       O = openW L d s q
-
-      roomO : openW L d s q .used ≤ length p
-      roomO = omega (arith, open-words L d s q, need-ge L d d' p q b e)
 
       o : OpenDone L d s O q
       o = open-done L d s q small g roomO
@@ -314,6 +312,11 @@ module _ (L : Ladder) where
       need = need-open L d d' s q b small g e (subst (λ (x : ℕ). x < n) (sym b-div) lt) roomO
           ∙ ap (λ (x : ℕ). openNeed L d (linkOf (word p q)) + x)
           (ap₂ (λ (a f : ℕ). openingsW L d d' (O .pool) a f) (ap₂ (λ (a f : ℕ). a + f) (sym firstP) b-div) b-mod₀ ∙ sym (need-links d d' (O .pool) P (hd .links) y (pick L d d' (view L d (word P) y))))
+
+  -- ... and so where all its openings have room
+  pub enterW : (d d' : ℕ) (s : Words) (q : ℕ) → suc (suc d) < 8 → Readable L (suc d) (s .pool) (s .used) q → ltb d' (suc d) ≡ true → SoundTree L (suc d) (view L (suc d) (word (s .pool)) q) → Maxed L (suc d) (s .pool) q
+      → suc d' ≤ largest (suc d) (view L (suc d) (word (s .pool)) q) → s .used + openingsW L (suc d) d' (s .pool) q (pick L (suc d) d' (view L (suc d) (word (s .pool)) q)) ≤ length (s .pool) → EnterW d d' s q
+  enterW d d' s q small g e sound m h room = enterW-open d d' s q small g e sound m h (omega (arith, open-words L d s q, need-ge L d d' (s .pool) q (pick L (suc d) d' (view L (suc d) (word (s .pool)) q)) e))
 
   -- THE WORDS' ACQUIRE IS THE TREE'S
   pub takeW-done : (d d' : ℕ) (s : Words) (q : ℕ) → suc d < 8 → Readable L d (s .pool) (s .used) q → d' ≤ d → SoundTree L d (view L d (word (s .pool)) q) → Maxed L d (s .pool) q

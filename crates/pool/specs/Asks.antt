@@ -1,15 +1,17 @@
 -- What the functions on nodes ask of their arguments: a node that may be read, a block within it, and room for what is opened.
 use mathlib.Core.Path.{_≡_}
+use mathlib.Core.Bool.{false}
 use mathlib.Core.List.{List}
-use Prim.Native.Nat.{ℕ, zero, suc, pred, _+_, _≤_, _<_}
+use Prim.Native.Nat.{ℕ, zero, suc, pred, _+_, _-_, _≤_, _<_}
 use lib.ListN.{length}
 use Rattle.sizes.specs.Ladder.{Ladder}
 use Rattle.sizes.specs.Six.{six, mostCode}
 use Rattle.model.specs.Ladder.{frames, top}
-use Rattle.model.specs.Tree.{largest, Sound as SoundTree, pick}
+use Rattle.model.specs.Frames.{Wholly}
+use Rattle.model.specs.Tree.{largest, free, Sound as SoundTree, pick}
 use Rattle.pool.specs.Limits.{poolLimit, mostFrames}
 use Rattle.pool.specs.Words.{word, maxOf, linkOf, fanOutOf}
-use Rattle.pool.specs.Room.{openingsW}
+use Rattle.pool.specs.Room.{openingsW, seedOpeningsW}
 use Rattle.pool.specs.View.{view}
 use Rattle.pool.specs.Blocks.{Child, Readable}
 use Rattle.pool.specs.Check.{SoundW}
@@ -88,3 +90,12 @@ pub record SeedAsk (p : List ℕ) (a e : ℕ) : Type 0 where
 pub record SoundAsk (p : List ℕ) : Type 0 where
   pub used : ℕ
   pub sound : SoundW six (top six) p used
+
+-- to store the frames from a to e, none of them free
+pub record SpanAsk (p : List ℕ) (u a e : ℕ) : Type 0 where
+  pub cap : length p ≤ poolLimit
+  pub sound : SoundW six (top six) p u
+  pub order : a ≤ e
+  pub ends : e ≤ mostFrames
+  pub held : Wholly (free six (top six) (view six (top six) (word p) 0)) a (e - a) false
+  pub room : u + seedOpeningsW six (e - a) p a e ≤ length p

@@ -1,7 +1,7 @@
 -- The regions of a state (document 01, 'State and pool words'): a start and an end in bytes for each place, in seeding order.
 use mathlib.Core.Path.{_≡_}
 use mathlib.Core.Bool.{cond}
-use mathlib.Core.List.{List, [], _∷_}
+use mathlib.Core.List.{List, [], _∷_, reverse}
 use Prim.Native.Nat.{ℕ, _*_, _%_, _≤_, _<_}
 use lib.Dec.{eqb}
 use lib.ListN.{getD}
@@ -29,3 +29,7 @@ module _ (L : Ladder) where
   regionsOf [] es = []
   regionsOf (s ∷ ss) [] = []
   regionsOf (s ∷ ss) (e ∷ es) = cond (eqb e 0) [] (record { start = addressFrame L s; end = addressFrame L e } ∷ regionsOf ss es)
+
+  -- the newest first, as the frame store has them
+  abbrev pub newest : (starts ends : List ℕ) → List Region
+  newest starts ends = reverse (regionsOf starts ends)
