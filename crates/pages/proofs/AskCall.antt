@@ -39,8 +39,7 @@ use Rattle.pool.proofs.Sizes.{page, frames-own, root-level, top-frames}
 use Rattle.pool.proofs.With.{newest-sum, newest-fit}
 use Rattle.pages.specs.declared.State.{State}
 use Rattle.pages.specs.Frames.{isFree}
-use Rattle.pages.specs.Calls.{Store, Reply, store, deal, tell, plain, settle, SoundStore, noRegions, refusals, acted, lacksRoom, refusalOf, served, Replies, freshReply}
-use Rattle.pages.specs.Demands.{Places, NoCode}
+use Rattle.pages.specs.Calls.{Store, Reply, store, deal, tell, plain, settle, SoundStore, noRegions, refusals, acted, lacksRoom, refusalOf, served, Replies, freshReply, Places}
 use Rattle.pages.proofs.Decide.{sound-check, sound-words}
 use Rattle.pages.proofs.Shown.{free-view}
 use Rattle.pages.proofs.Refusals.{Named, acquire-1, acquire-8, acquire-9, acquire-0, release-1, release-2, release-3, release-6, release-7, release-9, release-0}
@@ -77,21 +76,21 @@ six-small : suc (top six) < 8
 six-small = omega (arith, root-level)
 
 -- a number is no code, or its own
-code-cases : (n : ℕ) → ((code six n ≡ 0) × NoCode six places poolLimit n) ⊎ ((code six n ≡ n) × (1 ≤ n) × (n ≤ largestCode six))
+code-cases : (n : ℕ) → ((code six n ≡ 0) × ((n ≡ 0) ⊎ (largestCode six < n))) ⊎ ((code six n ≡ n) × (1 ≤ n) × (n ≤ largestCode six))
 unfolding code
 code-cases n = go (leb 1 n) refl (leb n (largestCode six)) refl
   where
     go : (x : Bool) → leb 1 n ≡ x → (y : Bool) → leb n (largestCode six) ≡ y
-        → ((cond (leb 1 n && leb n (largestCode six)) n 0 ≡ 0) × NoCode six places poolLimit n) ⊎ ((cond (leb 1 n && leb n (largestCode six)) n 0 ≡ n) × (1 ≤ n) × (n ≤ largestCode six))
+        → ((cond (leb 1 n && leb n (largestCode six)) n 0 ≡ 0) × ((n ≡ 0) ⊎ (largestCode six < n))) ⊎ ((cond (leb 1 n && leb n (largestCode six)) n 0 ≡ n) × (1 ≤ n) × (n ≤ largestCode six))
     go false e y f = let z : n ≡ 0 = omega (arith, leb-false 1 n e) in inl (ap (λ (t : Bool). cond (t && leb n (largestCode six)) n 0) e, inl z)
     go true e false f = inl (λ i. cond (e i && f i) n 0, inr (leb-false n (largestCode six) f))
     go true e true f = inr (λ i. cond (e i && f i) n 0, leb-true 1 n e, leb-true n (largestCode six) f)
 
 -- the code that is found is none
-pub code-none : (n c : ℕ) → c ≡ code six n → c ≡ 0 → NoCode six places poolLimit n
+pub code-none : (n c : ℕ) → c ≡ code six n → c ≡ 0 → (n ≡ 0) ⊎ (largestCode six < n)
 code-none n c e z = go (code-cases n)
   where
-    go : ((code six n ≡ 0) × NoCode six places poolLimit n) ⊎ ((code six n ≡ n) × (1 ≤ n) × (n ≤ largestCode six)) → NoCode six places poolLimit n
+    go : ((code six n ≡ 0) × ((n ≡ 0) ⊎ (largestCode six < n))) ⊎ ((code six n ≡ n) × (1 ≤ n) × (n ≤ largestCode six)) → (n ≡ 0) ⊎ (largestCode six < n)
     go (inl x) = x .1
     go (inr x) = absurd (omega (arith, e, z, x .0, x .1))
 
@@ -99,7 +98,7 @@ code-none n c e z = go (code-cases n)
 pub code-some : (n c : ℕ) → c ≡ code six n → (c ≡ 0 → ⊥) → (c ≡ n) × (1 ≤ n) × (n ≤ largestCode six)
 code-some n c e z = go (code-cases n)
   where
-    go : ((code six n ≡ 0) × NoCode six places poolLimit n) ⊎ ((code six n ≡ n) × (1 ≤ n) × (n ≤ largestCode six)) → (c ≡ n) × (1 ≤ n) × (n ≤ largestCode six)
+    go : ((code six n ≡ 0) × ((n ≡ 0) ⊎ (largestCode six < n))) ⊎ ((code six n ≡ n) × (1 ≤ n) × (n ≤ largestCode six)) → (c ≡ n) × (1 ≤ n) × (n ≤ largestCode six)
     go (inl x) = absurd (z (e ∙ x .0))
     go (inr x) = (e ∙ x .0, x .1, x .2)
 

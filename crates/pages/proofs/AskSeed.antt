@@ -32,8 +32,7 @@ use Rattle.pool.proofs.RegionTest.{apart-sum}
 use Rattle.pool.proofs.SeedSteps.{Next, seedW-step, span-next}
 use Rattle.pool.proofs.Sizes.{top-frames}
 use Rattle.pool.proofs.With.{newest-length}
-use Rattle.pages.specs.Calls.{Store, store, plain, settle, SoundStore, refusalOf, acted, served, wordsOf}
-use Rattle.pages.specs.Demands.{Places}
+use Rattle.pages.specs.Calls.{Store, store, plain, settle, SoundStore, refusalOf, acted, served, wordsOf, Places}
 use Rattle.pages.proofs.Statements.{Covered}
 use Rattle.pages.proofs.SoundView.{sound-laws}
 use Rattle.pages.proofs.Refusals.{Spans, seed-2, seed-3, seed-4, seed-5, seed-9}

@@ -9,11 +9,6 @@ pub mod SoundView
 pub mod Apart
 pub mod Laws
 pub mod Shown
-pub mod Acts
-pub mod Serves
-pub mod DemandTwo
-pub mod Unique
 pub mod Refusals
-pub mod Rooted
-pub mod AskCall
 pub mod AskSeed
+pub mod AskCall

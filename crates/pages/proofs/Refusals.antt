@@ -36,8 +36,7 @@ use Rattle.pool.proofs.Full.{store-lacks, take-lacks, seed-lacks}
 use Rattle.pool.proofs.Kept.{soundW-largest}
 use Rattle.pool.proofs.Regions.{InFrames, in-frames, frame-bytes, all-bytes}
 use Rattle.pool.proofs.With.{newest-length, newest-apart, newest-covered}
-use Rattle.pages.specs.Calls.{Store, SoundStore, shown, refusals, lacksRoom, acted, refusalOf}
-use Rattle.pages.specs.Demands.{Places, NoCode, NoPage, treeOf}
+use Rattle.pages.specs.Calls.{Store, Places, treeOf, SoundStore, shown, refusals, lacksRoom, acted, refusalOf}
 use Rattle.pages.specs.Frames.{isFree}
 use Rattle.pages.proofs.Decide.{sound-words}
 use Rattle.pages.proofs.Laws.{pool-laws}
@@ -114,7 +113,7 @@ module _ (L : Ladder) (most limit : ℕ) (m : MultipliesUp L) (small : suc (top 
       acquire-tests (suc d) lo hi ∙ rw (le-ltb (maxOf (word p 0)) (suc d) o, take-lacks L d p u small words (deep d hi) o)
 
   -- 1: no code
-  pub acquire-1 : (c : ℕ) → NoCode L most limit c → refusalOf L most limit s (acquire c) ≡ 1
+  pub acquire-1 : (c : ℕ) → (c ≡ 0) ⊎ (largest L < c) → refusalOf L most limit s (acquire c) ≡ 1
   unfolding refusalOf refusals
   acquire-1 c (inl z) = rw (eq-eqb c 0 z)
   acquire-1 c (inr l) = rw (ne-eqb c 0 (λ z. omega arith), lt-ltb (largest L) c l)
@@ -173,7 +172,7 @@ module _ (L : Ladder) (most limit : ℕ) (m : MultipliesUp L) (small : suc (top 
       )
 
   -- 1: no code
-  pub release-1 : (b c : ℕ) → NoCode L most limit c → refusalOf L most limit s (release b c) ≡ 1
+  pub release-1 : (b c : ℕ) → (c ≡ 0) ⊎ (largest L < c) → refusalOf L most limit s (release b c) ≡ 1
   unfolding refusalOf refusals
   release-1 b c (inl z) = rw (eq-eqb c 0 z)
   release-1 b c (inr l) = rw (ne-eqb c 0 (λ z. omega arith), lt-ltb (largest L) c l)
@@ -244,11 +243,11 @@ module _ (L : Ladder) (most limit : ℕ) (m : MultipliesUp L) (small : suc (top 
       seed-tests x y n ∙ rw (lt-leb most (length regions) l, e, seed-lacks L p u (addressFrame L x) (addressFrame L y) small words i (k .within) (apart-held (addressFrame L x) (addressFrame L y) (k .some) (k .within) e))
 
   -- 2: no whole pages, or none
-  pub seed-2 : (x y : ℕ) → NoPage L most limit x ⊎ (NoPage L most limit y ⊎ (y ≤ x)) → refusalOf L most limit s (seed x y) ≡ 2
+  pub seed-2 : (x y : ℕ) → (x % bytes L smallest ≢ 0) ⊎ ((y % bytes L smallest ≢ 0) ⊎ (y ≤ x)) → refusalOf L most limit s (seed x y) ≡ 2
   unfolding refusalOf refusals
   seed-2 x y z = go (eqb (x % bytes L smallest) 0) (eqb (y % bytes L smallest) 0) refl refl z
     where
-      go : (v w : Bool) → eqb (x % bytes L smallest) 0 ≡ v → eqb (y % bytes L smallest) 0 ≡ w → NoPage L most limit x ⊎ (NoPage L most limit y ⊎ (y ≤ x)) → refusalOf L most limit s (seed x y) ≡ 2
+      go : (v w : Bool) → eqb (x % bytes L smallest) 0 ≡ v → eqb (y % bytes L smallest) 0 ≡ w → (x % bytes L smallest ≢ 0) ⊎ ((y % bytes L smallest ≢ 0) ⊎ (y ≤ x)) → refusalOf L most limit s (seed x y) ≡ 2
       go false w e f z = rw (e, refusalOf, refusals)
       go true false e f z = rw (e, f, refusalOf, refusals)
       go true true e f (inl z) = absurd (z (eqb-true (x % bytes L smallest) 0 e))

@@ -10,9 +10,11 @@ use Rattle.model.specs.Ladder.{top}
 use Rattle.model.specs.Frames.{count}
 use Rattle.model.specs.Calls.{Region, seeded, Call, seed, acquire, release, report, Test, refuse, verdict}
 use Rattle.model.specs.FrameStore.{Frames, memory, size, blocks, lowestFree, whole, bare}
+use Rattle.model.specs.TreeStore.{State as TreeState}
 use Rattle.pool.specs.Words.{word, pack, maxOf}
 use Rattle.pool.specs.Nodes.{Words, words, storeW, takeW}
 use Rattle.pool.specs.Room.{seedW}
+use Rattle.pool.specs.View.{view}
 use Rattle.pool.specs.Regions.{newest}
 use Rattle.pages.specs.declared.State.{State}
 use Rattle.pages.specs.Sound.{Sound}
@@ -65,6 +67,11 @@ noRegions most u = record { used = u; starts = replicate most 0; ends = replicat
 
 -- a ladder, the most regions, the most words of a pool
 module _ (L : Ladder) (most limit : ℕ) where
+  -- the arrays of a state have as many places as there may be regions
+  pub record Places (s : Store) : Type 0 where
+    pub starts : length (s .state .starts) ≡ most
+    pub ends : length (s .state .ends) ≡ most
+
   -- state and pool are sound; a block lies behind its parent
   abbrev pub SoundStore : Store → Type 0
   SoundStore s = Sound L ltb most limit (s .state .used) (s .state .starts) (s .state .ends) (s .pool)
@@ -72,6 +79,10 @@ module _ (L : Ladder) (most limit : ℕ) where
   -- what a store shows: its free frames, and its regions in frames
   abbrev pub shown : Store → Frames
   shown s = record { free = isFree L (s .pool); regions = newest L (s .state .starts) (s .state .ends) }
+
+  -- the tree that the pool's words hold, with the regions
+  abbrev pub treeOf : Store → TreeState L
+  treeOf s = record { tree = view L (top L) (word (s .pool)) 0; regions = shown s .regions }
 
   -- the refusals of each call over the frames of a sound store, all but 9, in document 01's order
   unfoldable pub refusals : Frames → Call → List Test

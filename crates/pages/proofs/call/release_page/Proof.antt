@@ -6,8 +6,7 @@ use lib.ListN.{length-map}
 use Rattle.sizes.specs.Six.{six}
 use Rattle.model.specs.Calls.{release}
 use Rattle.pool.specs.Limits.{places, poolLimit}
-use Rattle.pages.specs.Calls.{Store, store}
-use Rattle.pages.specs.Demands.{Places}
+use Rattle.pages.specs.Calls.{Store, store, Places}
 use Rattle.pages.proofs.call.release_page.Statement.{statement}
 use Rattle.pages.proofs.call.release_page.Tie as tie
 

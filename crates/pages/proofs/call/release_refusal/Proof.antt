@@ -10,8 +10,7 @@ use mathlib.Core.Path.{sym, ap, _∙_}
 use lib.ListN.{length-map}
 use Rattle.sizes.specs.Six.{six}
 use Rattle.pool.specs.Limits.{places, poolLimit}
-use Rattle.pages.specs.Calls.{Store, store}
-use Rattle.pages.specs.Demands.{Places}
+use Rattle.pages.specs.Calls.{Store, store, Places}
 use Rattle.pages.proofs.call.release_refusal.Statement.{statement}
 use Rattle.pages.proofs.call.release_refusal.Tie as tie
 

@@ -17,10 +17,11 @@ use Rattle.model.specs.TreeStore.{State as TreeState, used, act, step, tests}
 use Rattle.model.specs.Demands.{AsFrames}
 use Rattle.model.proofs.Demand2.{demand2}
 use Rattle.model.proofs.Verdict.{never}
-use Rattle.pages.specs.Calls.{Store, Reply, plain, SoundStore, shown, refusals, refusalOf, acted, lacksRoom, served}
-use Rattle.pages.specs.Demands.{Places, inFrames, resultOf, answerOf, treeOf, odd}
-use Rattle.pages.proofs.Shown.{Aligned, sound-state, shown-same, refusals-frames, refusals-odd, odd-or, refusals-none}
-use Rattle.pages.proofs.Acts.{Acted, lacks-is, acted-is}
+use Rattle.pages.specs.Calls.{Store, Reply, plain, SoundStore, shown, refusals, refusalOf, acted, lacksRoom, served, Places, treeOf}
+use Rattle.demands.specs.Demands.{inFrames, resultOf, answerOf, odd}
+use Rattle.pages.proofs.Shown.{sound-state, shown-same}
+use Rattle.demands.proofs.Aligned.{Aligned, refusals-frames, refusals-odd, odd-or, refusals-none}
+use Rattle.demands.proofs.Acts.{Acted, lacks-is, acted-is}
 
 -- every refusal of the list has a number
 abbrev Numbered : List Test → Type 0

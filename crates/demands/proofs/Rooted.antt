@@ -23,11 +23,10 @@ use Rattle.pool.specs.Regions.{Regions, regionsOf, newest}
 use Rattle.pool.specs.Blocks.{Shape, Ok, Once, Child}
 use Rattle.pool.specs.Check.{SoundW, Marked, Rule, marksPass, maxBelow, allBelow}
 use Rattle.pool.proofs.Marks.{off-rule}
-use Rattle.pages.specs.Calls.{Store, Reply, store, plain, noRegions, SoundStore, freshReply}
-use Rattle.pages.specs.Demands.{Places, treeOf}
+use Rattle.pages.specs.Calls.{Store, Reply, store, plain, noRegions, SoundStore, freshReply, Places, treeOf}
 use Rattle.pages.proofs.Statements.{SoundLaws}
 use Rattle.pages.proofs.Words.{fields}
 use Rattle.pages.proofs.SoundView.{sound-laws}
 
 -- an unopened node without token, whose max is 0, keeps the rules
 bare-rule : (l : ℕ) (p : List ℕ) (n v k : ℕ) → tokenOf v ≡ 0 → maxOf v ≡ 0 → k ≡ 0 → marksPass l v (maxBelow p n k) (allBelow p n k) ≡ true

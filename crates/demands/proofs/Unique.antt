@@ -1,7 +1,7 @@
 -- A store is sound or is not, so a call has one reply. Assumes a ladder whose sizes multiply up.
-use mathlib.Core.Path.{_≡_, sym, _∙_}
+use mathlib.Core.Path.{_≡_, refl, sym, _∙_}
 use mathlib.Core.Logic.{Dec·and}
-use mathlib.Core.Bool.{true, Bool-discrete}
+use mathlib.Core.Bool.{Bool, true, false, Bool-discrete}
 use mathlib.Core.List.{List}
 use Prim.Native.Nat.{ℕ, suc, _-_}
 use native.Mathlib.Decide.{map-dec, decLe, ℕ-discrete}
@@ -10,14 +10,13 @@ use lib.ListN.{length}
 use Rattle.sizes.specs.Ladder.{Ladder}
 use Rattle.sizes.specs.Laws.{MultipliesUp}
 use Rattle.model.specs.Ladder.{top}
-use Rattle.model.specs.Calls.{Call}
+use Rattle.model.specs.Calls.{Call, seed, acquire, release, report}
 use Rattle.pool.specs.Words.{fanOutOf, framesOf}
 use Rattle.pool.specs.Check.{passes, sweep, walk}
 use Rattle.pool.specs.Regions.{regionsOf}
 use Rattle.pool.specs.RegionTest.{regionsPass}
-use Rattle.pages.specs.Calls.{Store, Reply, SoundStore, Replies}
-use Rattle.pages.specs.Demands.{Places}
+use Rattle.pages.specs.Calls.{Store, Reply, Places, SoundStore, Replies, freshReply}
 use Rattle.pages.proofs.Decide.{Checked, check-sound, sound-check}
 
 -- what the check asks is decided, clause by clause
 checked-dec : (L : Ladder) (limit used : ℕ) (starts ends p : List ℕ) → Dec (Checked L ltb limit used starts ends p)
@@ -43,3 +42,26 @@ module _ (L : Ladder) (most limit : ℕ) (m : MultipliesUp L) where
       go : Dec (SoundStore L most limit s) → r ≡ r'
       go (yes h) = q .sound h ∙ sym (q' .sound h)
       go (no h) = q .unsound h ∙ sym (q' .unsound h)
+
+  -- ... so have seed, acquire, release and report, each
+  pub seed-unique : (s : Store) (a e : ℕ) (r r' : Reply) → Replies L most limit s (seed a e) r → Replies L most limit s (seed a e) r' → Places L most limit s → r ≡ r'
+  seed-unique s a e = unique s (seed a e)
+
+  pub acquire-unique : (s : Store) (c : ℕ) (r r' : Reply) → Replies L most limit s (acquire c) r → Replies L most limit s (acquire c) r' → Places L most limit s → r ≡ r'
+  acquire-unique s c = unique s (acquire c)
+
+  pub release-unique : (s : Store) (b c : ℕ) (r r' : Reply) → Replies L most limit s (release b c) r → Replies L most limit s (release b c) r' → Places L most limit s → r ≡ r'
+  release-unique s b c = unique s (release b c)
+
+  pub report-unique : (s : Store) (r r' : Reply) → Replies L most limit s report r → Replies L most limit s report r' → Places L most limit s → r ≡ r'
+  report-unique s = unique s report
+
+  -- fresh's promise is an equation
+  pub fresh-unique : (p : List ℕ) (r r' : Reply) → r ≡ freshReply L most limit p → r' ≡ freshReply L most limit p → r ≡ r'
+  fresh-unique p r r' q q' = q ∙ sym q'
+
+  -- yes exactly if sound: one answer
+  pub check-unique : (s : Store) (x y : Bool) → (x ≡ true → SoundStore L most limit s) × (SoundStore L most limit s → x ≡ true) → (y ≡ true → SoundStore L most limit s) × (SoundStore L most limit s → y ≡ true) → x ≡ y
+  check-unique s true y q q' = sym (q' .1 (q .0 refl))
+  check-unique s false true q q' = q .1 (q' .0 refl)
+  check-unique s false false q q' = refl

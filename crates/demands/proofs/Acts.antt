@@ -37,13 +37,14 @@ use Rattle.pool.proofs.Kept.{soundW-largest}
 use Rattle.pool.proofs.Regions.{all-bytes, frame-bytes, regions-of}
 use Rattle.pool.proofs.RegionTest.{passes-if}
 use Rattle.pool.proofs.With.{newest-apart, newest-length, newest-seeded, with-newest, with-pass}
-use Rattle.pages.specs.Calls.{Store, SoundStore, shown, acted, lacksRoom}
-use Rattle.pages.specs.Demands.{Places, inFrames, resultOf, treeOf}
+use Rattle.pages.specs.Calls.{Store, SoundStore, shown, acted, lacksRoom, Places, treeOf}
+use Rattle.demands.specs.Demands.{inFrames, resultOf}
 use Rattle.pages.proofs.Statements.{Held, Offered, PoolLaws, SoundLaws, Seeds}
 use Rattle.pages.proofs.Decide.{sound-check, sound-words}
 use Rattle.pages.proofs.Laws.{pool-laws}
 use Rattle.pages.proofs.SoundView.{sound-laws}
-use Rattle.pages.proofs.Shown.{Aligned, sound-state, shown-same}
+use Rattle.pages.proofs.Shown.{sound-state, shown-same}
+use Rattle.demands.proofs.Aligned.{Aligned}
 
 module _ (L : Ladder) (most limit : ℕ) where
   -- what an accepted call answers and leaves

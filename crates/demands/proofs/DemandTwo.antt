@@ -20,11 +20,12 @@ use Rattle.model.specs.Demands.{shown as treeShown}
 use Rattle.model.proofs.FrameStore.{frame-laws, same-self}
 use Rattle.model.proofs.Ladder.{largest-top}
 use Rattle.model.proofs.Verdict.{never}
 use Rattle.pages.specs.Frames.{isFree}
-use Rattle.pages.specs.Calls.{Store, Reply, SoundStore, shown, refusals, served, Replies}
-use Rattle.pages.specs.Demands.{Places, inFrames, resultOf, answerOf, treeOf, odd, FreeBlock, NoCode, AsFrames, Lowest-first}
-use Rattle.pages.proofs.Shown.{Aligned, shown-same, refusals-frames, refusals-odd, odd-or, refusals-none}
-use Rattle.pages.proofs.Serves.{frame-never, as-frames, served-odd, served-steps, served-leaves}
+use Rattle.pages.specs.Calls.{Store, Reply, SoundStore, shown, refusals, served, Replies, Places, treeOf}
+use Rattle.demands.specs.Demands.{inFrames, resultOf, answerOf, odd, FreeBlock, NoCode, AsFrames, Lowest-first}
+use Rattle.pages.proofs.Shown.{shown-same}
+use Rattle.demands.proofs.Aligned.{Aligned, refusals-frames, refusals-odd, odd-or, refusals-none}
+use Rattle.demands.proofs.Serves.{frame-never, as-frames, served-odd, served-steps, served-leaves}
 
 -- ---- the frame store
 module _ (L : Ladder) (most : ℕ) (g : Frames) where
@@ -93,7 +94,7 @@ module _ (L : Ladder) (most : ℕ) (g : Frames) where
 
 module _ (L : Ladder) (most limit : ℕ) where
   -- a reply's answer is a refusal exactly if its number is
-  answer-refused : (c : Call) (r : Reply) (k : ℕ) → (r .refusal ≡ suc k) ↔ (answerOf L most limit c r ≡ refused (suc k))
+  pub answer-refused : (c : Call) (r : Reply) (k : ℕ) → (r .refusal ≡ suc k) ↔ (answerOf L most limit c r ≡ refused (suc k))
   answer-refused c r k = (λ e. rw e, λ q. go (r .refusal) q)
     where
       result : (c : Call) → resultOf L most limit c r ≡ refused (suc k) → ⊥

@@ -9,8 +9,8 @@ use Rattle.model.specs.Calls.{Call, seed, acquire, release}
 use Rattle.pool.specs.Limits.{places, poolLimit}
 use Rattle.pool.specs.Words.{word}
 use Rattle.pool.specs.Cases.{of, document}
 use Rattle.pages.specs.Calls.{Store, Reply, freshReply}
-use Rattle.pages.specs.Demands.{Runs}
+use Rattle.demands.specs.Demands.{Runs}
 
 -- what a reply says: refusal, base, probes, and the words used behind it
 pub data Line : Type 0 where

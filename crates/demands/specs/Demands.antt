@@ -11,27 +11,20 @@ use Rattle.model.specs.Ladder.{top}
 use Rattle.model.specs.Frames.{Wholly, Lowest, bit, count}
 use Rattle.model.specs.Calls.{seeded, Call, seed, acquire, release, report, Answer, refused, stored, dealt, reported, verdict, Outcome}
 use Rattle.model.specs.FrameStore.{Frames, memory, size, Same, frameStep}
-use Rattle.model.specs.TreeStore.{State as TreeState, used, act}
+use Rattle.model.specs.TreeStore.{used, act}
 use Rattle.model.specs.Runs.{reckon}
 use Rattle.model.specs.Rust.{gives}
 use Rattle.model.specs.Original.{emptyAllocator}
 use Rattle.model.specs.AsOriginal.{Said, Addressable, originals, tellings}
-use Rattle.pool.specs.Words.{word}
-use Rattle.pool.specs.Regions.{Holds, newest}
-use Rattle.pool.specs.View.{view}
+use Rattle.pool.specs.Regions.{Holds}
 use Rattle.pages.specs.Frames.{isFree}
-use Rattle.pages.specs.Calls.{Store, Reply, plain, SoundStore, shown, refusals, Replies, freshReply}
+use Rattle.pages.specs.Calls.{Store, Reply, plain, Places, SoundStore, shown, treeOf, refusals, Replies, freshReply}
 
 -- n is k where P holds, and what Rest says where P does not: the first condition in order wins
 abbrev pub first : (n k : ℕ) (P Rest : Type 0) → Type 0
 first n k P Rest = (P × (n ≡ k)) ⊎ ((P → ⊥) × Rest)
 
 module _ (L : Ladder) (most limit : ℕ) where
-  -- the arrays of a state have as many places as there may be regions
-  pub record Places (s : Store) : Type 0 where
-    pub starts : length (s .state .starts) ≡ most
-    pub ends : length (s .state .ends) ≡ most
-
   -- a call and its answer in frames, as the model has them
   abbrev pub inFrames : Call → Call
   inFrames (seed a e) = seed (addressFrame L a) (addressFrame L e)
@@ -48,12 +41,9 @@ module _ (L : Ladder) (most limit : ℕ) where
   abbrev pub answerOf : Call → Reply → Answer
   answerOf c r = elim (r .refusal) [ zero ↦ resultOf c r | suc n ↦ refused (suc n) ]
 
-  -- the tree that the pool's words hold, with the regions; and 9: behind the call it would have more words than the pool
-  abbrev pub treeOf : Store → TreeState L
-  treeOf s = record { tree = view L (top L) (word (s .pool)) 0; regions = shown L most limit s .regions }
-
+  -- 9: behind the call the tree would have more words than the pool
   abbrev pub Overfull : Store → Call → Type 0
-  Overfull s c = length (s .pool) < used L (act L (treeOf s) (inFrames c) .state .tree)
+  Overfull s c = length (s .pool) < used L (act L (treeOf L most limit s) (inFrames c) .state .tree)
 
   -- ---- DEMAND 1: document 01's conditions, in its order
   -- b is the first frame of a wholly free block of the code
@@ -84,7 +74,7 @@ module _ (L : Ladder) (most limit : ℕ) where
 
   pub record Demand1 : Type 0 where
     -- each refusal exactly when document 01 says, the first in order winning
-    pub number : (s : Store) → Places s → (c : Call) (r : Reply) → Replies L most limit s c r → Number s c (r .refusal)
+    pub number : (s : Store) → Places L most limit s → (c : Call) (r : Reply) → Replies L most limit s c r → Number s c (r .refusal)
     pub fresh : (p : List ℕ) → first (freshReply L most limit p .refusal) 11 ((length p ≡ 0) ⊎ (limit < length p)) (freshReply L most limit p .refusal ≡ 0)
     -- a refusal hands back the state it got, changes no pool word, and answers zeros
     pub unchanged : (s : Store) (c : Call) (r : Reply) → Replies L most limit s c r → r .refusal ≢ 0 → r ≡ plain (r .refusal) s
@@ -127,8 +117,8 @@ module _ (L : Ladder) (most limit : ℕ) where
   saids (c ∷ cs) (r ∷ rs) = record { call = inFrames c; answer = answerOf c r } ∷ saids cs rs
 
   pub record Demand2 : Type 0 where
-    pub frames : (s : Store) → Places s → SoundStore L most limit s → (c : Call) (r : Reply) → Replies L most limit s c r → AsFrames s c r
-    pub lowest : (s : Store) → Places s → SoundStore L most limit s → (c : ℕ) (r : Reply) → Replies L most limit s (acquire c) r → Lowest-first s c r
+    pub frames : (s : Store) → Places L most limit s → SoundStore L most limit s → (c : Call) (r : Reply) → Replies L most limit s c r → AsFrames s c r
+    pub lowest : (s : Store) → Places L most limit s → SoundStore L most limit s → (c : ℕ) (r : Reply) → Replies L most limit s (acquire c) r → Lowest-first s c r
     -- after the same calls from a fresh store, each page dealt and each 'out of pages' is the original's
     pub original : Addressable L → (p : List ℕ) → freshReply L most limit p .refusal ≡ 0 → (cs : List Call) (rs : List Reply) (s : Store) → Runs (freshReply L most limit p .store) cs rs s
         → originals L (saids cs rs) (emptyAllocator (suc (top L))) ≡ gives (tellings L (saids cs rs))

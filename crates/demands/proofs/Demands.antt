@@ -1,0 +1,26 @@
+-- THE THREE DEMANDS of the six sizes, with the numbers of document 01. `DemandOne`, `DemandTwo` and `DemandThree` have them for any ladder of at most 7 codes whose sizes multiply up, and any numbers.
+use Prim.Native.Nat.{ℕ, suc, _<_}
+use native.Mathlib.Omega.{arith}
+use Rattle.sizes.specs.Six.{six}
+use Rattle.sizes.proofs.Six.{six-multiplies}
+use Rattle.model.specs.Ladder.{top}
+use Rattle.pool.specs.Limits.{places, poolLimit}
+use Rattle.pages.proofs.AskSeed.{small-six}
+use Rattle.demands.specs.Demands.{Demand1, Demand2, Demand3}
+use Rattle.demands.proofs.DemandOne as One
+use Rattle.demands.proofs.DemandTwo.{replies-frames, replies-lowest}
+use Rattle.demands.proofs.DemandThree as Three
+use Rattle.demands.proofs.AsOriginal.{as-original}
+
+pub demand1 : Demand1 six places poolLimit
+demand1 = One.demand1 six places poolLimit six-multiplies small-six
+
+pub demand2 : Demand2 six places poolLimit
+demand2 = record {
+  frames = replies-frames six places poolLimit six-multiplies small-six;
+  lowest = replies-lowest six places poolLimit six-multiplies small-six;
+  original = as-original six places poolLimit six-multiplies small-six;
+}
+
+pub demand3 : Demand3 six places poolLimit
+demand3 = Three.demand3 six places poolLimit six-multiplies small-six

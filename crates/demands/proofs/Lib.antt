@@ -1,0 +1,10 @@
+pub mod Aligned
+pub mod Acts
+pub mod Serves
+pub mod DemandTwo
+pub mod Unique
+pub mod Rooted
+pub mod DemandThree
+pub mod AsOriginal
+pub mod DemandOne
+pub mod Demands
