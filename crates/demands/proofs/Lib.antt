@@ -1,10 +1,12 @@
 pub mod Aligned
 pub mod Acts
 pub mod Serves
-pub mod DemandTwo
 pub mod Unique
 pub mod Rooted
+pub mod DemandOne
+pub mod DemandTwo
 pub mod DemandThree
 pub mod AsOriginal
-pub mod DemandOne
 pub mod Demands
+pub mod TreeLines
+pub mod FenceCases
