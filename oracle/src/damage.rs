@@ -163,7 +163,7 @@ impl Damaged {
     }
 
     /// How many words are both used and in the pool.
-    fn live(&self) -> usize {
+    pub(crate) fn live(&self) -> usize {
         self.pool.len().min(usize::try_from(self.state.used).unwrap_or(usize::MAX))
     }
 

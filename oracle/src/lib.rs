@@ -1,5 +1,6 @@
 //! Judges of document 01, each written without the others: the original Rust with its stand-ins, a reference from the
 //! document's text, a brute-force store over free frames; a generator of journals, and the comparison.
+pub mod calls;
 pub mod compare;
 pub mod damage;
 pub mod frames;

@@ -5,7 +5,7 @@ use oracle::damage::list;
 use oracle::generate::{Profile, record};
 use oracle::journal::encode;
 use oracle::shrink::shrink;
-use oracle::{damage, mutants, original, reference};
+use oracle::{calls, damage, mutants, original, reference};
 use std::io::{Read, Write, stdin, stdout};
 use std::process::ExitCode;
 use std::time::{Duration, Instant};
@@ -17,8 +17,8 @@ const USAGE: &str = "usage:
   oracle journal PROFILE NUMBER LENGTH > FILE  writes a generated journal
   oracle compare [ENTRIES [NUMBER [PROFILE]]]  compares all judges (200000 entries, numbers from 1 on, all profiles)
   oracle damage [STORES [NUMBER]]              compares two judges of soundness on damaged stores (100000)
-  oracle damage-list FILE                      writes damaged stores for a program that asks a check of each
-  oracle damage-verdicts < LIST                what such a program must print, by the reference's check
+  oracle calls-list FILE                       writes stores, damaged stores and journals for a program that makes all calls
+  oracle calls-answers < LIST                  what such a program must print, by the reference
   oracle check-times [FILE [PROGRAM]]          times checks of three stores; writes them as a list for a program that
                                                asks a check of each, and times the program on it
   oracle mutants                               shows that wrong stores are found
@@ -46,8 +46,8 @@ fn main() -> ExitCode {
         ["journal", profile, number, length] => write_journal(profile, number, length),
         ["compare", ref rest @ ..] if rest.len() <= 3 => compare(rest),
         ["damage", ref rest @ ..] if rest.len() <= 2 => run_damage(rest),
-        ["damage-list", file] => write_to(file, &list::list()),
-        ["damage-verdicts"] => read_input().and_then(|bytes| print(&list::verdicts(&bytes, reference::CALLS.check))),
+        ["calls-list", file] => write_to(file, &calls::list()),
+        ["calls-answers"] => read_input().and_then(|bytes| print(&calls::answers(&bytes, reference::CALLS))),
         ["check-times", ref rest @ ..] if rest.len() <= 2 => check_times(rest),
         ["mutants"] => mutants::run().and_then(|text| print(text.as_bytes())),
         _ => Err(usage()),

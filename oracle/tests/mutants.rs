@@ -1,6 +1,6 @@
 //! Every wrong store is found, but for the equivalent ones.
 
-use oracle::damage::list;
+use oracle::calls::{self, Reader};
 use oracle::{mutants, reference};
 
 #[test]
@@ -18,20 +18,14 @@ fn there_are_mutants_of_every_clause() {
     }
 }
 
-/// Wrong checks that only a pool of the limit's length shows, which the list's array is too short for.
-const OF_LONG_POOLS: [&str; 2] = ["sound_limit_below", "sound_without_pool_limit"];
-
 #[test]
-fn the_list_of_damaged_stores_shows_every_wrong_check() {
-    let list = list::list();
-    let expected = list::verdicts(&list, reference::CALLS.check);
-    let wrong = mutants::ALL.iter().filter(|(name, _, equivalent, _)| {
-        name.starts_with("sound_") && equivalent.is_none() && !OF_LONG_POOLS.contains(name)
-    });
+fn the_list_of_calls_shows_every_wrong_store() {
+    let list = calls::short_list();
+    let expected: Vec<Vec<u8>> = Reader::new(&list, reference::CALLS).collect();
     let mut overlooked = Vec::new();
-    for (name, _, _, calls) in wrong {
-        let told = std::panic::catch_unwind(|| list::verdicts(&list, calls.check));
-        if told.is_ok_and(|told| told == expected) {
+    for (name, _, _, calls) in mutants::ALL.iter().filter(|mutant| mutant.2.is_none()) {
+        let same = || Reader::new(&list, *calls).eq(expected.iter().cloned());
+        if std::panic::catch_unwind(same).unwrap_or(false) {
             overlooked.push(*name);
         }
     }

@@ -1,36 +1,22 @@
-//! A list of stores and damaged stores in bytes, for a program that asks a check of each. `writer` has the bytes,
-//! `reader` reads them again without the stores that they were made from, `times` has stores whose check is timed.
-//!
-//! All numbers are little-endian, and records follow one another:
-//! - 1, a base store: the length of its name (one byte, at most 64) and the name; the pool's words (4 bytes); used, the
-//!   starts and the ends (8 bytes each); how many runs there are (4), and for each its count and its word (4 each);
-//! - 2, a damaged store: how many word changes there are (1), and for each its place and a mask (4 each); how many
-//!   field changes (1), and for each the field (1: 0 used, 1 to 8 starts, 9 to 16 ends, 17 the pool's length) and a
-//!   mask (8); masks are for exclusive or;
-//! - 3, a sweep: a mask, the first place and a count (4 each): one word after the other is changed by the mask;
-//! - 4, a repetition: how often the base store is asked (4).
+//! Base stores and damaged ones for a list (`calls`), each with its verdict, and most with calls beside it. `times` has
+//! stores whose check is timed.
 
 use super::Damaged;
+use super::calls_on;
 use super::kinds::KINDS;
 use super::sources::{LENGTH, Library, Source};
+use crate::calls::writer::{MOST_CHANGES, Writer};
 use crate::generate::Profile;
 use crate::generate::dice::Dice;
 use crate::journal::{Entry, acquire, release, seed};
 use crate::reference::{CALLS, new_node, pack};
 use crate::store::{JOURNAL_POOL, State};
-use writer::Writer;
 
-mod reader;
 #[cfg(test)]
 mod tests;
 mod times;
-mod writer;
 
-pub use reader::verdicts;
 pub use times::{by_program, list as times_list, table as times_table};
-
-/// How many words the program's array has.
-const CAPACITY: usize = 400_000;
 
 /// Masks that change one field of a word: max, token, level, link; and one for token and max together.
 const MASKS: [u32; 12] = [1, 2, 4, 7, 8, 9, 16, 32, 64, 128, 256, 131_072];
@@ -63,9 +49,6 @@ const FEW_CHANGES: usize = 24;
 /// After how many throws of the dice it may have more.
 const FEW_THROWS: usize = 18;
 
-/// How many word changes a record holds at most.
-const MOST_CHANGES: usize = 255;
-
 /// A kind that fits few stores; each gets two more of it.
 const RARE: &str = "token two levels below a token";
 
@@ -91,26 +74,33 @@ const POOL_DAMAGES: usize = 56;
 /// How often dice are thrown anew where a damage does not apply, or does not fit into a record.
 const THROWS: usize = 36;
 
-/// The whole list.
-pub fn list() -> Vec<u8> {
-    written().bytes
-}
+/// How many damaged stores in turn are asked the same questions.
+const SAME_QUESTIONS: usize = 4;
 
-/// The list with what was counted on the way.
-fn written() -> Writer {
-    let mut writer = Writer::default();
-    write_document(&mut writer);
+/// Of so many sweeps and groups of damaged stores one is asked nothing.
+const UNASKED: u64 = 3;
+
+/// Writes all base stores and damaged ones.
+pub fn write(writer: &mut Writer) {
+    write_document(writer);
     for name in POOLS {
-        write_pool(&mut writer, name);
+        write_pool(writer, name);
     }
     for (number, (name, mut store)) in journal_stores().into_iter().enumerate() {
         let used = store.pool.len();
         append_spare(&mut store, number);
         writer.base(&name, &store);
-        write_damages(&mut writer, &store, number);
-        write_sweep_around(&mut writer, &store, used, number);
+        write_damages(writer, &store, number);
+        write_questions(writer, &store, number as u64);
+        write_sweep_around(writer, &store, used, number);
+        writer.end();
     }
-    writer
+}
+
+/// One call of each kind for the stores that follow, or none, by a number.
+fn write_questions(writer: &mut Writer, store: &Damaged, number: u64) {
+    let asked = calls_on(store, number, 700);
+    writer.questions(if number % UNASKED == UNASKED - 1 { &[] } else { &asked });
 }
 
 /// The store that the document's journal leaves, and single-field damage of every word.
@@ -118,9 +108,11 @@ fn write_document(writer: &mut Writer) {
     let store = document();
     let words = store.pool.len();
     writer.base("the document's journal", &store);
-    for mask in MASKS {
+    for (number, mask) in MASKS.into_iter().enumerate() {
+        write_questions(writer, &store, number as u64);
         writer.sweep(mask, 0, words);
     }
+    writer.end();
 }
 
 /// What the document's journal leaves on a pool that is used whole.
@@ -144,12 +136,14 @@ fn write_pool(writer: &mut Writer, name: &str) {
     let words = store.pool.len();
     writer.base(name, &store);
     writer.sweep(8, 0, words);
+    write_questions(writer, &store, 0);
     writer.sweep(128, 0, words);
     let all: Vec<usize> = (0..KINDS.len()).collect();
     let mut dice = Dice::new(words as u64, kind(name) as u64);
     for turn in 0..POOL_DAMAGES {
         write_damage(writer, &store, kind(POOLS[turn % POOLS.len()]), &all, &mut dice);
     }
+    writer.end();
 }
 
 /// The place of the kind of that name.
@@ -204,6 +198,9 @@ fn write_damages(writer: &mut Writer, base: &Damaged, number: usize) {
     let all: Vec<usize> = (0..KINDS.len()).collect();
     let mut dice = Dice::new(number as u64, 500);
     for turn in number * DAMAGES..(number + 1) * DAMAGES {
+        if turn % SAME_QUESTIONS == 0 {
+            write_questions(writer, base, (turn / SAME_QUESTIONS) as u64);
+        }
         write_damage(writer, base, all[turn % all.len()], &all, &mut dice);
     }
     for _ in 0..2 {
@@ -211,6 +208,7 @@ fn write_damages(writer: &mut Writer, base: &Damaged, number: usize) {
     }
     let harmless = HARMLESS.map(kind);
     for turn in 0..HARMLESS_DAMAGES {
+        write_questions(writer, base, (number * HARMLESS_DAMAGES + turn) as u64);
         write_damage(writer, base, harmless[turn % harmless.len()], &harmless, &mut dice);
     }
 }

@@ -1,5 +1,7 @@
 use super::*;
+use crate::calls::answers;
 use crate::reference;
+use crate::store::Calls;
 use crate::walk;
 
 /// The lines of a list that hold verdicts, and those that hold names.
@@ -8,25 +10,20 @@ fn lines(printed: &[u8]) -> (Vec<&str>, Vec<&str>) {
     text.lines().partition(|line| line.bytes().all(|byte| byte == b'0' || byte == b'1'))
 }
 
-/// What a list that begins with these records prints.
-fn printed(records: &[&[u8]]) -> String {
-    String::from_utf8(verdicts(&records.concat(), reference::CALLS.check)).expect("names are ASCII")
-}
-
-/// The fresh store on a pool of two words.
-fn fresh() -> Vec<u8> {
+/// All base stores and damaged ones as a list.
+fn written() -> Writer {
     let mut writer = Writer::default();
-    let state = State { used: 1, ..State::default() };
-    writer.base("fresh", &Damaged { state, pool: vec![96, 7], what: String::new() });
-    writer.bytes
+    write(&mut writer);
+    writer
 }
 
 #[test]
 fn the_list_is_large_and_its_bytes_are_few() {
     let writer = written();
-    assert!(writer.damaged >= 24_000, "{}", writer.damaged);
+    assert!(writer.damaged >= 37_000, "{}", writer.damaged);
+    assert!(writer.calls >= 3 * writer.damaged, "{}", writer.calls);
     assert!(writer.bytes.len() < 400_000, "{}", writer.bytes.len());
-    assert_eq!(writer.bytes, list());
+    assert_eq!(writer.bytes, written().bytes);
 }
 
 #[test]
@@ -58,9 +55,10 @@ fn the_document_has_1423_words() {
 #[test]
 fn both_judges_print_the_same_and_both_verdicts_occur_often() {
     let writer = written();
-    let printed = verdicts(&writer.bytes, reference::CALLS.check);
-    assert!(printed == verdicts(&writer.bytes, walk::sound));
-    let (digits, names) = lines(&printed);
+    let printed = answers(&writer.bytes, reference::CALLS);
+    assert!(printed == answers(&writer.bytes, Calls { check: walk::sound, ..reference::CALLS }));
+    let (digits, others) = lines(&printed);
+    let names: Vec<&str> = others.into_iter().filter(|line| !line.contains(" calls, digest ")).collect();
     let count = |digit: char| digits.iter().map(|line| line.matches(digit).count() as u64).sum::<u64>();
     assert_eq!(names.len(), 1 + POOLS.len() + journal_stores().len());
     assert_eq!(count('0') + count('1'), writer.damaged + names.len() as u64);
@@ -75,46 +73,13 @@ fn a_difference_read_again_gives_the_damaged_store() {
         let mut writer = Writer::default();
         writer.base(&name, &base);
         let mut expected = String::from("1");
-        for (kind, (name, _)) in KINDS.iter().enumerate() {
+        for kind in 0..KINDS.len() {
             let mut store = base.clone();
             if store.damage((kind, 3)) && writer.damaged(&store, &[kind], MOST_CHANGES) {
-                assert!(store.pool.len() <= CAPACITY, "{name}");
                 expected += if walk::sound(store.state, &store.pool) { "1" } else { "0" };
             }
         }
-        let read = verdicts(&writer.bytes, reference::CALLS.check);
+        let read = answers(&writer.bytes, reference::CALLS);
         assert_eq!(lines(&read).0.concat(), expected, "{name}");
     }
-}
-
-#[test]
-fn records_print_their_verdicts() {
-    let base = fresh();
-    assert_eq!(printed(&[&base]), "fresh\n1\n");
-    assert_eq!(printed(&[&base, &base]), "fresh\n1\nfresh\n1\n");
-    assert_eq!(printed(&[&base, &[3, 8, 0, 0, 0, 0, 0, 0, 0, 2, 0, 0, 0]]), "fresh\n101\n");
-    assert_eq!(printed(&[&base, &[4, 9, 0, 0, 0], &[4, 0, 0, 0, 0]]), "fresh\n111\n");
-    let token = [2, 1, 0, 0, 0, 0, 8, 0, 0, 0, 0];
-    let used = [2, 0, 1, 0, 1, 0, 0, 0, 0, 0, 0, 0];
-    let longer = [2, 0, 1, 17, 255, 255, 255, 255, 255, 255, 255, 255];
-    assert_eq!(printed(&[&base, &token, &[2, 0, 0], &used, &longer]), "fresh\n10101\n");
-    assert_eq!(
-        printed(&[&base, &[3, 0, 0, 0, 0, 0, 0, 0, 0, 66, 0, 0, 0]]),
-        format!("fresh\n{}\n111\n", "1".repeat(64))
-    );
-}
-
-#[test]
-fn a_wrong_list_ends_with_a_line_that_says_so() {
-    let base = fresh();
-    let place = [2, 1, 128, 26, 6, 0, 1, 0, 0, 0, 0];
-    let field = [2, 0, 1, 18, 0, 0, 0, 0, 0, 0, 0, 0];
-    let sweep = [3, 8, 0, 0, 0, 127, 26, 6, 0, 2, 0, 0, 0];
-    for record in [&[5][..], &[2, 1, 0], &[1, 65], &[4, 1, 0, 0], &place, &field, &sweep] {
-        assert_eq!(printed(&[&base, record]), "fresh\n1\nbad list\n", "{record:?}");
-    }
-    let mut short = base.clone();
-    short[7] = 3;
-    assert_eq!(printed(&[&short]), "bad list\n");
-    assert_eq!(printed(&[]), "");
 }

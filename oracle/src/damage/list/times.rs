@@ -1,7 +1,7 @@
 //! Stores of three sizes, how long a check of each takes, and a list by which a program's check is timed on the same.
 
 use super::super::Damaged;
-use super::writer::Writer;
+use crate::calls::writer::Writer;
 use crate::frames::FRAME as FRAME_BYTES;
 use crate::reference::{BYTES, CALLS, FAN_OUT, FRAME, Word, new_node, pack};
 use crate::store::State;
@@ -182,7 +182,7 @@ mod tests {
 
     #[test]
     fn the_list_has_a_sound_store_and_a_repetition_each() {
-        let printed = String::from_utf8(super::super::verdicts(&list(), CALLS.check)).expect("names are ASCII");
+        let printed = String::from_utf8(crate::calls::answers(&list(), CALLS)).expect("names are ASCII");
         let lines: Vec<&str> = printed.lines().collect();
         let names: Vec<&str> = lines.iter().copied().step_by(2).collect();
         let asked = ["1418 words, asked 189305", "16384 words, asked 16384", "395012 words, asked 679"];
