@@ -26,8 +26,8 @@ use Rattle.model.proofs.FrameRuns.{Seedable, Releasable, seedable, dealable, re
 use Rattle.model.proofs.Ladder.{frames-pos}
 use Rattle.model.proofs.Verdict.{clear}
 use Rattle.pool.specs.Words.{word, maxOf}
-use Rattle.pool.specs.Nodes.{words, storeW, takeW}
-use Rattle.pool.specs.Room.{openingsW, pickW, seedOpeningsW, seedW}
+use Rattle.pool.specs.Nodes.{words, storeW, takeW, seedW}
+use Rattle.pool.specs.Room.{openingsW, pickW, seedOpeningsW}
 use Rattle.pool.specs.View.{view}
 use Rattle.pool.specs.Regions.{regionsOf, newest}
 use Rattle.pool.specs.RegionTest.{regionsPass, regionPasses}

@@ -11,13 +11,13 @@ use borrow.Author.Tests.{ltb-true, ltb-false, leb-true, leb-false, eqb-true, eqb
 use Rattle.sizes.specs.Ladder.{Ladder, smallest, largest, bytes, addressFrame}
 use Rattle.sizes.specs.Laws.{MultipliesUp, IsCode}
 use Rattle.sizes.proofs.Ladder.{aligned-below}
-use Rattle.model.specs.Ladder.{frames, top}
+use Rattle.model.specs.Ladder.{top}
 use Rattle.model.specs.Calls.{Call, seed, acquire, release, report, Test, refuse, verdict}
 use Rattle.model.specs.FrameStore.{Frames, memory, size, refusals as frameRefusals}
 use Rattle.model.proofs.FrameStore.{same-test}
 use Rattle.model.proofs.Ladder.{bytes-is, largest-top}
 use Rattle.pages.specs.Calls.{refusals}
-use Rattle.demands.specs.Demands.{inFrames, odd}
+use Rattle.demands.specs.Demands.{inFrames, unaligned}
 
 module _ (L : Ladder) where
   -- addresses are multiples of a page
@@ -113,16 +113,16 @@ module _ (L : Ladder) (most limit : ℕ) (m : MultipliesUp L) (small : suc (top 
   refusals-frames g c a = alike-verdict (refusals L most limit g c) (frameRefusals L most g (inFrames L most limit c)) (tests-alike g c a)
 
   -- others get 2: the address of a release that is no multiple of a page is none of a larger size
-  pub refusals-odd : (g : Frames) (c : Call) → odd L most limit c ≡ true → verdict (refusals L most limit g c) ≡ 2
+  pub refusals-unaligned : (g : Frames) (c : Call) → unaligned L most limit c ≡ true → verdict (refusals L most limit g c) ≡ 2
   unfolding refusals
-  refusals-odd g (seed a e) o = go (eqb (a % bytes L smallest) 0) (eqb (e % bytes L smallest) 0) refl refl
+  refusals-unaligned g (seed a e) o = go (eqb (a % bytes L smallest) 0) (eqb (e % bytes L smallest) 0) refl refl
     where
       go : (x y : Bool) → eqb (a % bytes L smallest) 0 ≡ x → eqb (e % bytes L smallest) 0 ≡ y → verdict (refusals L most limit g (seed a e)) ≡ 2
       go true true h j = absurd (false≢true (rw (h, j) at o))
       go true false h j = rw (h, j)
       go false y h j = rw h
-  refusals-odd g (acquire c) o = absurd (false≢true o)
-  refusals-odd g (release b c) o =
+  refusals-unaligned g (acquire c) o = absurd (false≢true o)
+  refusals-unaligned g (release b c) o =
       let x = and-eq-true-iff (not (eqb (b % bytes L smallest) 0)) (leb smallest c && leb c (largest L)) .0 o in
       let y = and-eq-true-iff (leb smallest c) (leb c (largest L)) .0 (x .1) in
       let low : 1 ≤ c = leb-true smallest c (y .0) in
@@ -134,19 +134,19 @@ module _ (L : Ladder) (most limit : ℕ) (m : MultipliesUp L) (small : suc (top 
         le-ltb (largest L) c high,
         ne-eqb (b % bytes L c) 0 (λ e. some (aligned-below L m b smallest c page (record { low = low; high = high }) low e)),
       )
-  refusals-odd g report o = absurd (false≢true o)
+  refusals-unaligned g report o = absurd (false≢true o)
 
-  -- a call is odd, or its addresses are multiples of a page, or it is a release whose code is none
-  pub odd-or : (c : Call) → (odd L most limit c ≡ true) ⊎ (Aligned L c ⊎ ((b k : ℕ) × (c ≡ release b k) × ((k ≡ 0) ⊎ (largest L < k))))
-  odd-or (seed a e) = go (eqb (a % bytes L smallest) 0) (eqb (e % bytes L smallest) 0) refl refl
+  -- a call is unaligned, or its addresses are multiples of a page, or it is a release whose code is none
+  pub unaligned-or : (c : Call) → (unaligned L most limit c ≡ true) ⊎ (Aligned L c ⊎ ((b k : ℕ) × (c ≡ release b k) × ((k ≡ 0) ⊎ (largest L < k))))
+  unaligned-or (seed a e) = go (eqb (a % bytes L smallest) 0) (eqb (e % bytes L smallest) 0) refl refl
     where
       go : (x y : Bool) → eqb (a % bytes L smallest) 0 ≡ x → eqb (e % bytes L smallest) 0 ≡ y
           → (not (x && y) ≡ true) ⊎ (((a % bytes L smallest ≡ 0) × (e % bytes L smallest ≡ 0)) ⊎ ((b k : ℕ) × (seed a e ≡ release b k) × ((k ≡ 0) ⊎ (largest L < k))))
       go true true h j = inr (inl (eqb-true (a % bytes L smallest) 0 h, eqb-true (e % bytes L smallest) 0 j))
       go true false h j = inl refl
       go false y h j = inl refl
-  odd-or (acquire c) = inr (inl tt)
-  odd-or (release b c) = go (eqb (b % bytes L smallest) 0) (leb smallest c) (leb c (largest L)) refl refl refl
+  unaligned-or (acquire c) = inr (inl tt)
+  unaligned-or (release b c) = go (eqb (b % bytes L smallest) 0) (leb smallest c) (leb c (largest L)) refl refl refl
     where
       go : (x y z : Bool) → eqb (b % bytes L smallest) 0 ≡ x → leb smallest c ≡ y → leb c (largest L) ≡ z
           → ((not x && (y && z)) ≡ true) ⊎ ((b % bytes L smallest ≡ 0) ⊎ ((b' k : ℕ) × (release b c ≡ release b' k) × ((k ≡ 0) ⊎ (largest L < k))))
@@ -154,7 +154,7 @@ module _ (L : Ladder) (most limit : ℕ) (m : MultipliesUp L) (small : suc (top 
       go false true true h i j = inl refl
       go false true false h i j = inr (inr (b, c, refl, inr (leb-false c (largest L) j)))
       go false false z h i j = let e : c ≡ 0 = omega (arith, leb-false smallest c i) in inr (inr (b, c, refl, inl e))
-  odd-or report = inr (inl tt)
+  unaligned-or report = inr (inl tt)
 
   -- the refusals of such a release are 1, in bytes and in frames
   pub refusals-none : (g : Frames) (b k : ℕ) → (k ≡ 0) ⊎ (largest L < k) → (verdict (refusals L most limit g (release b k)) ≡ 1) × (verdict (frameRefusals L most g (inFrames L most limit (release b k))) ≡ 1)

@@ -1,4 +1,4 @@
--- Demand 2 beside the original: after the same calls from a fresh store it never panics, and each page dealt and each 'out of pages' is its own. Assumes a ladder of at most 7 codes whose sizes multiply up.
+-- Demand 2 beside the original: after the same calls from a fresh store it never panics, and each page dealt and each 'out of pages' is its own. Assumes a ladder of at most 7 codes whose sizes multiply up and are below 2^64.
 use mathlib.Core.Path.{_≡_, refl, sym, ap, ap₂, _∙_, subst, fun-ext}
 use mathlib.Core.Bool.{Bool, true, false, cond}
 use mathlib.Core.List.{List, [], _∷_}
@@ -16,8 +16,8 @@ use Rattle.model.specs.AsOriginal.{mayMake, Said, Told, Addressable, Allocator,
 use Rattle.model.proofs.AsOriginal.{skipped-originals, skipped-tellings}
 use Rattle.model.proofs.AsOriginal.{as-original as tree-original}
 use Rattle.pages.specs.Calls.{Store, Reply, plain, SoundStore, freshReply, Places, treeOf}
-use Rattle.demands.specs.Demands.{inFrames, answerOf, odd, Runs, none, more, saids}
-use Rattle.demands.proofs.Serves.{served-odd, served-steps, served-leaves}
+use Rattle.demands.specs.Demands.{inFrames, answerOf, unaligned, Runs, none, more, saids}
+use Rattle.demands.proofs.Serves.{served-unaligned, served-steps, served-leaves}
 use Rattle.demands.proofs.Rooted.{fresh-fits, fresh-is, rooted-tree}
 use Rattle.demands.proofs.DemandThree.{fresh-keeps}
 
@@ -52,10 +52,10 @@ unmade (release b c) = refl
 unmade report = refl
 
 module _ (L : Ladder) (most limit : ℕ) where
-  -- the calls without an odd address, in frames
+  -- the calls without an unaligned address, in frames
   unfoldable framed : List Call → List Call
   framed [] = []
-  framed (c ∷ cs) = cond (odd L most limit c) (framed cs) (inFrames L most limit c ∷ framed cs)
+  framed (c ∷ cs) = cond (unaligned L most limit c) (framed cs) (inFrames L most limit c ∷ framed cs)
 
   module _ (m : MultipliesUp L) (small : suc (top L) < 8) where
     -- a run on a sound store is told as the tree store's run of these
@@ -66,12 +66,12 @@ module _ (L : Ladder) (most limit : ℕ) where
     same-told s t cs rs a h (more {cs = cs'} {rs = rs'} c r q w) =
         let v = served-leaves L most limit m small s c a h in
         let x = ap (λ (z : Reply). z .store) (sym (q .sound h)) in
-        go (odd L most limit c) refl (same-told (r .store) t cs' rs' (subst (Places L most limit) x (v .places)) (subst (SoundStore L most limit) x (v .sound)) w)
+        go (unaligned L most limit c) refl (same-told (r .store) t cs' rs' (subst (Places L most limit) x (v .places)) (subst (SoundStore L most limit) x (v .sound)) w)
       where
-        go : (x : Bool) → odd L most limit c ≡ x → SameTold L (saids L most limit cs' rs') (transcript L most (length (r .store .pool)) (framed cs') (treeOf L most limit (r .store)))
+        go : (x : Bool) → unaligned L most limit c ≡ x → SameTold L (saids L most limit cs' rs') (transcript L most (length (r .store .pool)) (framed cs') (treeOf L most limit (r .store)))
             → SameTold L (saids L most limit (c ∷ cs') (r ∷ rs')) (transcript L most (length (s .pool)) (cond x (framed cs') (inFrames L most limit c ∷ framed cs')) (treeOf L most limit s))
         go true o ih =
-            let y : r ≡ plain 2 s = q .sound h ∙ served-odd L most limit m small s c o in
+            let y : r ≡ plain 2 s = q .sound h ∙ served-unaligned L most limit m small s c o in
             let k : mayMake (inFrames L most limit c) (answerOf L most limit c r) ≡ false = rw y (unmade (inFrames L most limit c)) in
             told-skipped L (record { call = inFrames L most limit c; answer = answerOf L most limit c r }) (saids L most limit cs' rs') (transcript L most (length (s .pool)) (framed cs') (treeOf L most limit s)) k
             (subst (λ (z : Reply). SameTold L (saids L most limit cs' rs') (transcript L most (length (z .store .pool)) (framed cs') (treeOf L most limit (z .store)))) y ih)

@@ -23,7 +23,7 @@ use Rattle.model.proofs.Verdict.{never}
 use Rattle.pool.specs.Regions.{Holds}
 use Rattle.pool.proofs.Regions.{frame-bytes}
 use Rattle.pages.specs.Frames.{isFree}
-use Rattle.pages.specs.Calls.{Store, Reply, plain, SoundStore, shown, refusals, acted, lacksRoom, refusalOf, served, Replies, freshReply, Places, treeOf}
+use Rattle.pages.specs.Calls.{Store, store, Reply, plain, noRegions, SoundStore, shown, refusals, acted, lacksRoom, refusalOf, served, Replies, freshReply, Places, treeOf}
 use Rattle.demands.specs.Demands.{first, inFrames, Overfull, FreeBlock, Some, Number, Demand1}
 use Rattle.demands.proofs.Aligned.{Aligned, refusals-frames}
 use Rattle.demands.proofs.Acts.{lacks-is}
@@ -143,6 +143,15 @@ module _ (L : Ladder) (most limit : ℕ) where
       go true true a b = rw (a, b, freshReply) (inr (λ z. elim z [ inl e ↦ omega (arith, e, leb-true 1 (length p) a) | inr l ↦ omega (arith, l, leb-true (length p) limit b) ], refl))
       go true false a b = rw (a, b, freshReply) (inl (inr (leb-false (length p) limit b), refl))
       go false y a b = let e : length p ≡ 0 = omega (arith, leb-false 1 (length p) a) in rw (a, freshReply) (inl (inl e, refl))
+
+  -- refused, it hands back zeros and the pool as it was
+  fresh-refused : (p : List ℕ) → freshReply L most limit p .refusal ≢ 0 → freshReply L most limit p ≡ plain 11 (store (noRegions most 0) p)
+  unfolding freshReply
+  fresh-refused p k = go (leb 1 (length p) && leb (length p) limit) refl
+    where
+      go : (x : Bool) → (leb 1 (length p) && leb (length p) limit) ≡ x → freshReply L most limit p ≡ plain 11 (store (noRegions most 0) p)
+      go true e = absurd (k (rw (e, freshReply) refl))
+      go false e = rw (e, freshReply) refl
 
   module _ (m : MultipliesUp L) (small : suc (top L) < 8) where
     -- the frames between the addresses of two frames
@@ -266,4 +275,4 @@ module _ (L : Ladder) (most limit : ℕ) where
 
 -- DEMAND 1
 pub demand1 : (L : Ladder) (most limit : ℕ) → MultipliesUp L → suc (top L) < 8 → Demand1 L most limit
-demand1 L most limit m small = record { number = reply-number L most limit m small; fresh = fresh-number L most limit; unchanged = refused-unchanged L most limit }
+demand1 L most limit m small = record { number = reply-number L most limit m small; fresh = fresh-number L most limit; fresh-unchanged = fresh-refused L most limit; unchanged = refused-unchanged L most limit }

@@ -34,9 +34,9 @@ use Rattle.pool.proofs.Regions.{frame-bytes}
 use Rattle.pool.proofs.With.{newest-length, count-is}
 use Rattle.pages.specs.Frames.{isFree}
 use Rattle.pages.specs.Calls.{Store, Reply, plain, settle, SoundStore, shown, refusals, acted, lacksRoom, refusalOf, served, Replies, freshReply, Places, treeOf}
-use Rattle.demands.specs.Demands.{inFrames, answerOf, odd, asked, Runs, none, more, held, region, Newly, fresh, next, Kept, Demand3}
+use Rattle.demands.specs.Demands.{inFrames, answerOf, unaligned, asked, Runs, none, more, held, sown, region, Newly, fresh, next, Kept, Demand3}
 use Rattle.pages.proofs.Shown.{sound-state, shown-same}
-use Rattle.demands.proofs.Serves.{served-steps, served-leaves}
+use Rattle.demands.proofs.Serves.{served-steps, served-leaves, served-regions}
 use Rattle.demands.proofs.DemandTwo.{answer-refused, replies-frames, replies-lowest}
 use Rattle.demands.proofs.Rooted.{fresh-fits, rooted, fresh-is, rooted-places, rooted-tree, rooted-sound}
 
@@ -116,9 +116,9 @@ module _ (L : Ladder) (most limit : ℕ) (m : MultipliesUp L) (small : suc (top 
   module _ (s : Store) (h : ℕ → Bool) (k : Keeps L most limit s h) (c : Call) where
     -- the frame store, asked in bytes, keeps the split
     asked-split : Split L (asked L most limit (shown L most limit s) c .state) (reckon L (inFrames L most limit c) (asked L most limit (shown L most limit s) c .answer) h)
-    asked-split = go (odd L most limit c) refl
+    asked-split = go (unaligned L most limit c) refl
       where
-        go : (x : Bool) → odd L most limit c ≡ x → Split L (asked L most limit (shown L most limit s) c .state) (reckon L (inFrames L most limit c) (asked L most limit (shown L most limit s) c .answer) h)
+        go : (x : Bool) → unaligned L most limit c ≡ x → Split L (asked L most limit (shown L most limit s) c .state) (reckon L (inFrames L most limit c) (asked L most limit (shown L most limit s) c .answer) h)
         go true o = rw (o, reckon-refused L most (inFrames L most limit c) 2 h) (k .split)
         go false o = rw o (split-step L most (shown L most limit s) h (k .split) (inFrames L most limit c))
 
@@ -143,10 +143,19 @@ module _ (L : Ladder) (most limit : ℕ) (m : MultipliesUp L) (small : suc (top 
           let x = ap (λ (z : Reply). z .store) (sym (q .sound (k .sound))) in
           record { places = subst (Places L most limit) x (v .places); sound = subst (SoundStore L most limit) x (v .sound); split = reply-split }
 
+      -- an accepted seed's region comes in front, and no other call changes the regions
+      regions-next : shown L most limit (r .store) .regions ≡ sown L most limit (c ∷ []) (r ∷ []) (shown L most limit s .regions)
+      regions-next = rw (q .sound (k .sound)) (served-regions L most limit m small s c (k .places) (k .sound))
+
   -- all calls keep it
   keeps-run : (s t : Store) (cs : List Call) (rs : List Reply) (h : ℕ → Bool) → Keeps L most limit s h → Runs L most limit s cs rs t → Keeps L most limit t (held L most limit cs rs h)
   keeps-run s t cs rs h k none = k
   keeps-run s t cs rs h k (more {cs = cs'} {rs = rs'} c r q w) = keeps-run (r .store) t cs' rs' (reckon L (inFrames L most limit c) (answerOf L most limit c r) h) (keeps-next s h k c r q) w
+
+  -- the regions are those of the accepted seeds
+  regions-run : (s t : Store) (cs : List Call) (rs : List Reply) (h : ℕ → Bool) → Keeps L most limit s h → Runs L most limit s cs rs t → shown L most limit t .regions ≡ sown L most limit cs rs (shown L most limit s .regions)
+  regions-run s t cs rs h k none = refl
+  regions-run s t cs rs h k (more {cs = cs'} {rs = rs'} c r q w) = regions-run (r .store) t cs' rs' (reckon L (inFrames L most limit c) (answerOf L most limit c r) h) (keeps-next s h k c r q) w ∙ ap (sown L most limit cs' rs') (regions-next s h k c r q)
 
   -- ---- a fresh store
 
@@ -236,8 +245,8 @@ module _ (L : Ladder) (most limit : ℕ) (m : MultipliesUp L) (small : suc (top 
       regions : shown L most limit t .regions ≡ reverse (take n seededAs)
 
     -- regions are whole pages
-    even : (n : ℕ) → n < length seededAs → odd L most limit (region L most limit s n) ≡ false
-    even n l =
+    region-aligned : (n : ℕ) → n < length seededAs → unaligned L most limit (region L most limit s n) ≡ false
+    region-aligned n l =
         let x = h .regions .aligned n (omega (arith, l, count-is L most (s .state .starts) (s .state .ends) (h .regions) (a .starts) (a .ends))) in
         rw (eq-eqb (getD (s .state .starts) n 0 % bytes L smallest) 0 (x .0), eq-eqb (getD (s .state .ends) n 0 % bytes L smallest) 0 (x .1))
 
@@ -270,7 +279,7 @@ module _ (L : Ladder) (most limit : ℕ) (m : MultipliesUp L) (small : suc (top 
     asked-takes : (n : ℕ) (t : Store) → n < length seededAs → shown L most limit t .regions ≡ reverse (take n seededAs)
         → (asked L most limit (shown L most limit t) (region L most limit s n) .answer ≡ stored) × (asked L most limit (shown L most limit t) (region L most limit s n) .state .regions ≡ nth n ∷ shown L most limit t .regions)
     unfolding frameStep frameAct
-    asked-takes n t l e = rw (even n l, takes n t l e) (refl, refl)
+    asked-takes n t l e = rw (region-aligned n l, takes n t l e) (refl, refl)
 
     -- a newly seeded store has the first regions
     anew : (n : ℕ) (t : Store) → Newly L most limit s n t → n ≤ length seededAs → Anew n t
@@ -307,9 +316,10 @@ module _ (L : Ladder) (most limit : ℕ) (m : MultipliesUp L) (small : suc (top 
         (i .keeps, i .regions ∙ ap reverse (take-all n seededAs (omega (arith, newest-length seededAs))))
 
   -- what a run keeps is what demand 3 asks
-  kept : (s : Store) (h : ℕ → Bool) → Keeps L most limit s h → Kept L most limit s h
+  kept : (s : Store) (h : ℕ → Bool) → Keeps L most limit s h → Kept L most limit s (shown L most limit s .regions) h
   kept s h k = record {
     sound = k .sound;
+    seeds = refl;
     split = k .split .adds;
     beyond = λ f l. (seeded-past (memory L) (shown L most limit s .regions) (sound-state L most limit m small s (k .places) (k .sound) .fit) f l, k .split .out f l);
     totals = free-held s h k;
@@ -326,4 +336,8 @@ module _ (L : Ladder) (most limit : ℕ) (m : MultipliesUp L) (small : suc (top 
 
   -- DEMAND 3
   pub demand3 : Demand3 L most limit
-  demand3 p e cs rs s w = kept s (held L most limit cs rs (λ f. false)) (keeps-run (freshReply L most limit p .store) s cs rs (λ f. false) (fresh-keeps p e) w)
+  demand3 p e cs rs s w =
+      let t = freshReply L most limit p .store in
+      let h = held L most limit cs rs (λ f. false) in
+      let k = fresh-keeps p e in
+      subst (λ (gs : List Region). Kept L most limit s gs h) (regions-run t s cs rs (λ f. false) k w ∙ ap (sown L most limit cs rs) (fresh-regions p e)) (kept s h (keeps-run t s cs rs (λ f. false) k w))

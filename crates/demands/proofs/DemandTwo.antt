@@ -1,7 +1,7 @@
 -- Demand 2 on words: the replies on a sound store are the frame store's, asked in bytes. Assumes a ladder of at most 7 codes whose sizes multiply up.
 use mathlib.Core.Path.{_≡_, refl, sym, _∙_, subst}
-use mathlib.Core.Logic.{_⊎_, inl, inr, _↔_, _≢_, Iff·trans}
-use mathlib.Core.Bool.{Bool, true, false, true≢false}
+use mathlib.Core.Logic.{inl, inr, _↔_, _≢_, Iff·trans}
+use mathlib.Core.Bool.{Bool, true, false}
 use mathlib.Core.List.{[], _∷_}
 use Prim.Native.Nat.{ℕ, zero, suc, pred, _*_, _≤_, _<_}
 use native.Mathlib.Omega.{arith}
@@ -9,7 +9,7 @@ use native.Mathlib.Nat.{zero-mod, le-of-suc-le-suc}
 use native.Mathlib.Decide.{decLt}
 use lib.Dec.{leb, ltb}
 use borrow.Author.Tests.{ltb-false, leb-true, leb-false, le-ltb, le-leb, ne-eqb}
-use Rattle.sizes.specs.Ladder.{Ladder, smallest, largest, bytes, addressFrame}
+use Rattle.sizes.specs.Ladder.{Ladder, smallest, bytes, addressFrame}
 use Rattle.sizes.specs.Laws.{MultipliesUp}
 use Rattle.model.specs.Ladder.{top, probes}
 use Rattle.model.specs.Frames.{Lowest}
@@ -21,11 +21,10 @@ use Rattle.model.proofs.FrameStore.{frame-laws, same-self}
 use Rattle.model.proofs.Ladder.{largest-top}
 use Rattle.model.proofs.Verdict.{never}
 use Rattle.pages.specs.Frames.{isFree}
-use Rattle.pages.specs.Calls.{Store, Reply, SoundStore, shown, refusals, served, Replies, Places, treeOf}
-use Rattle.demands.specs.Demands.{inFrames, resultOf, answerOf, odd, FreeBlock, NoCode, AsFrames, Lowest-first}
+use Rattle.pages.specs.Calls.{Store, Reply, SoundStore, shown, served, Replies, Places, treeOf}
+use Rattle.demands.specs.Demands.{inFrames, resultOf, answerOf, unaligned, FreeBlock, NoCode, AsFrames, Lowest-first}
 use Rattle.pages.proofs.Shown.{shown-same}
-use Rattle.demands.proofs.Aligned.{Aligned, refusals-frames, refusals-odd, odd-or, refusals-none}
-use Rattle.demands.proofs.Serves.{frame-never, as-frames, served-odd, served-steps, served-leaves}
+use Rattle.demands.proofs.Serves.{frame-never, as-frames, served-unaligned, served-steps, served-leaves}
 
 -- ---- the frame store
 module _ (L : Ladder) (most : ℕ) (g : Frames) where
@@ -41,6 +40,15 @@ module _ (L : Ladder) (most : ℕ) (g : Frames) where
       go : (v : ℕ) → verdict (frameRefusals L most g c) ≡ v → frameStep L most g c .answer ≡ refused (suc k) → v ≡ suc k
       go zero e q = absurd (frame-never L g c (suc k) (rw e at q))
       go (suc v) e q = let z : refused (suc v) ≡ refused (suc k) = rw e at q in cc
+
+  -- ... and none exactly if its verdict is 0
+  frame-accepts : (c : Call) → (verdict (frameRefusals L most g c) ≡ 0) ↔ ((k : ℕ) → frameStep L most g c .answer ≢ refused k)
+  unfolding frameStep
+  frame-accepts c = (λ e k q. frame-never L g c k (rw e at q), λ n. go (verdict (frameRefusals L most g c)) refl n)
+    where
+      go : (v : ℕ) → verdict (frameRefusals L most g c) ≡ v → ((k : ℕ) → frameStep L most g c .answer ≢ refused k) → v ≡ 0
+      go zero e n = refl
+      go (suc v) e n = absurd (n (suc v) (rw e))
 
   -- an acquire that is not refused by 1 names a code
   coded : (c : ℕ) → verdict (frameRefusals L most g (acquire c)) ≢ 1 → (d : ℕ) × (c ≡ suc d) × (d ≤ top L)
@@ -108,26 +116,18 @@ module _ (L : Ladder) (most limit : ℕ) where
       go (suc n) q = cc
 
   module _ (m : MultipliesUp L) (small : suc (top L) < 8) where
-    -- where no address is odd, the refusals in bytes are the frame store's
-    refusals-same : (g : Frames) (c : Call) → odd L most limit c ≡ false → verdict (refusals L most limit g c) ≡ verdict (frameRefusals L most g (inFrames L most limit c))
-    refusals-same g c o = go (odd-or L most limit m small c)
-      where
-        go : (odd L most limit c ≡ true) ⊎ (Aligned L c ⊎ ((b k : ℕ) × (c ≡ release b k) × ((k ≡ 0) ⊎ (largest L < k)))) → verdict (refusals L most limit g c) ≡ verdict (frameRefusals L most g (inFrames L most limit c))
-        go (inl e) = absurd (true≢false (sym e ∙ o))
-        go (inr (inl k)) = refusals-frames L most limit m small g c k
-        go (inr (inr x)) = let r = refusals-none L most limit m small g (x .0) (x .1) (x .3) in rw (x .2) (r .0 ∙ sym (r .1))
-
     module _ (s : Store) (a : Places L most limit s) (h : SoundStore L most limit s) where
       -- what is served is the frame store's
       served-frames : (c : Call) → AsFrames L most limit s c (served L most limit s c)
-      served-frames c = go (odd L most limit c) refl
+      served-frames c = go (unaligned L most limit c) refl
         where
-          go : (x : Bool) → odd L most limit c ≡ x → AsFrames L most limit s c (served L most limit s c)
-          go true o = rw (served-odd L most limit m small s c o) (record {
+          go : (x : Bool) → unaligned L most limit c ≡ x → AsFrames L most limit s c (served L most limit s c)
+          go true o = rw (served-unaligned L most limit m small s c o) (record {
             answer = λ k. rw o;
             leaves = λ k. rw o (same-self L (shown L most limit s));
             bytes = (zero-mod (bytes L smallest), zero-mod (bytes L smallest), zero-mod (bytes L smallest));
-            nine = (λ e. absurd (omega arith), λ e. absurd (omega (arith, e .0, refusals-odd L most limit m small (shown L most limit s) c o)));
+            nine = (λ e. absurd (omega arith), λ e. absurd (e .0 2 (rw o)));
+            keeps = h;
           })
           go false o =
               let w = served-steps L most limit m small s c a h o in
@@ -138,9 +138,10 @@ module _ (L : Ladder) (most limit : ℕ) where
                 leaves = λ k. rw o (same-by L most (treeShown L (treeOf L most limit (r .store))) (shown L most limit (r .store)) (frameStep L most (shown L most limit s) (inFrames L most limit c) .state)
                     (shown-same L most limit m small (r .store)) (subst (λ (t : TreeState L). Same L (treeShown L t) (frameStep L most (shown L most limit s) (inFrames L most limit c) .state)) (sym (w .tree)) (f .leaves (λ z. k (answer-refused c r 8 .1 (w .answer ∙ z))))));
                 bytes = served-leaves L most limit m small s c a h .bytes;
+                keeps = served-leaves L most limit m small s c a h .sound;
                 nine = (
-                  λ e. let z = f .nine .0 (sym (w .answer) ∙ answer-refused c r 8 .0 e) in (refusals-same (shown L most limit s) c o ∙ z .0, z .1),
-                  λ e. answer-refused c r 8 .1 (w .answer ∙ f .nine .1 (sym (refusals-same (shown L most limit s) c o) ∙ e .0, e .1)),
+                  λ e. let z = f .nine .0 (sym (w .answer) ∙ answer-refused c r 8 .0 e) in (rw o (frame-accepts L most (shown L most limit s) (inFrames L most limit c) .0 (z .0)), z .1),
+                  λ e. answer-refused c r 8 .1 (w .answer ∙ f .nine .1 (frame-accepts L most (shown L most limit s) (inFrames L most limit c) .1 (rw o at (e .0)), e .1)),
                 );
               }
 
@@ -148,7 +149,7 @@ module _ (L : Ladder) (most limit : ℕ) where
       served-eight : (c : ℕ) (r : Reply) → AsFrames L most limit s (acquire c) r → (r .refusal ≡ 8) ↔ (verdict (frameRefusals L most (shown L most limit s) (acquire c)) ≡ 8)
       served-eight c r f = (
         λ e. frame-verdict L most (shown L most limit s) (acquire c) 7 .0 (sym (f .answer (λ z. absurd (omega arith))) ∙ answer-refused (acquire c) r 7 .0 e),
-        λ v. answer-refused (acquire c) r 7 .1 (f .answer (λ z. absurd (omega (arith, v, refusals-same (shown L most limit s) (acquire c) refl, f .nine .0 z .0))) ∙ frame-verdict L most (shown L most limit s) (acquire c) 7 .1 v),
+        λ v. let w = frame-verdict L most (shown L most limit s) (acquire c) 7 .1 v in answer-refused (acquire c) r 7 .1 (f .answer (λ z. f .nine .0 z .0 8 w) ∙ w),
       )
 
       -- 8 exactly if no block of the code is free

@@ -17,14 +17,14 @@ use Rattle.model.specs.TreeStore.{fresh, anyFree, largestFit, seedFrom, used, a
 use Rattle.model.specs.Calls.{Call, seed, acquire}
 use Rattle.pool.specs.Limits.{places, poolLimit}
 use Rattle.pool.specs.Words.{word, pack}
-use Rattle.pool.specs.Nodes.{Words, words, storeW}
-use Rattle.pool.specs.Room.{seedW}
+use Rattle.pool.specs.Nodes.{Words, words, storeW, seedW}
 use Rattle.pool.specs.Cases.{of, document}
 use Rattle.pool.proofs.Cases.{seed as seed-case}
+use Rattle.pool.proofs.Sizes.{small-six}
 use Rattle.pages.specs.Calls.{Store, Reply, freshReply}
 use Rattle.demands.specs.Demands.{Runs}
 use Rattle.demands.specs.Fences.{Line, line, lineOf, Says, page16, back, Fences}
-use Rattle.demands.proofs.TreeLines.{linesFrom, even, fresh-lines, seed-words}
+use Rattle.demands.proofs.TreeLines.{linesFrom, aligned-calls, fresh-lines, seed-words}
 
 -- two lines, two lists of lines, are the same
 abbrev alike : Line → Line → Bool
@@ -53,14 +53,9 @@ same-is (l ∷ ls) (m ∷ ms) e =
     let p = and-eq-true-iff (alike l m) (same ls ms) .0 e in
     ap₂ (λ (x : Line) (xs : List Line). x ∷ xs) (alike-is l m (p .0)) (same-is ls ms (p .1))
 
--- the pool of n words is no longer than it may be, no call has an odd address, and the tree store has these lines for the calls
+-- the pool of n words is no longer than it may be, no call has an unaligned address, and the tree store has these lines for the calls
 unfoldable matches : (n : ℕ) → List Call → List Line → Bool
-matches n cs ls = (leb 1 n && leb n poolLimit) && (even six places poolLimit cs && same (linesFrom six places poolLimit n cs (fresh six)) ls)
-
--- six codes are few
-six-small : suc (top six) < 8
-unfolding top largest-code
-six-small = omega arith
+matches n cs ls = (leb 1 n && leb n poolLimit) && (aligned-calls six places poolLimit cs && same (linesFrom six places poolLimit n cs (fresh six)) ls)
 
 -- a pool of n zeros
 module _ (n : ℕ) where
@@ -79,10 +74,10 @@ module _ (n : ℕ) where
   lines-are : {cs : List Call} {ls : List Line} → matches n cs ls ≡ true → (rs : List Reply) (s : Store) → Run cs rs s → map lineOf rs ≡ ls
   unfolding matches
   lines-are {cs = cs} {ls = ls} e rs s g =
-      let x = and-eq-true-iff (leb 1 n && leb n poolLimit) (even six places poolLimit cs && same (linesFrom six places poolLimit n cs (fresh six)) ls) .0 e in
-      let y = and-eq-true-iff (even six places poolLimit cs) (same (linesFrom six places poolLimit n cs (fresh six)) ls) .0 (x .1) in
+      let x = and-eq-true-iff (leb 1 n && leb n poolLimit) (aligned-calls six places poolLimit cs && same (linesFrom six places poolLimit n cs (fresh six)) ls) .0 e in
+      let y = and-eq-true-iff (aligned-calls six places poolLimit cs) (same (linesFrom six places poolLimit n cs (fresh six)) ls) .0 (x .1) in
       let z = fits (x .0) in
-      fresh-lines six places poolLimit six-multiplies six-small zeros (z .0) (z .1) cs rs s (y .0) g
+      fresh-lines six places poolLimit six-multiplies small-six zeros (z .0) (z .1) cs rs s (y .0) g
       ∙ ap (λ (k : ℕ). linesFrom six places poolLimit k cs (fresh six)) (length-replicate n 0) ∙ same-is (linesFrom six places poolLimit n cs (fresh six)) ls (y .1)
 
   -- THE PROMISES SAY WHAT THE TREE STORE SAYS
@@ -97,8 +92,8 @@ module _ (n : ℕ) where
   seeds {a = a} {e = e} {u = u} t rs s g =
       let ls = line 0 0 0 u ∷ [] in
       let x = lines-are t rs s g in
-      let z = fits (and-eq-true-iff (leb 1 n && leb n poolLimit) (even six places poolLimit (seed a e ∷ []) && same (linesFrom six places poolLimit n (seed a e ∷ []) (fresh six)) ls) .0 t .0) in
-      (x, seed-words six places poolLimit six-multiplies six-small zeros (z .0) (z .1) a e rs s u g x)
+      let z = fits (and-eq-true-iff (leb 1 n && leb n poolLimit) (aligned-calls six places poolLimit (seed a e ∷ []) && same (linesFrom six places poolLimit n (seed a e ∷ []) (fresh six)) ls) .0 t .0) in
+      (x, seed-words six places poolLimit six-multiplies small-six zeros (z .0) (z .1) a e rs s u g x)
 
 -- a test passes at 0 to 3
 abbrev allFour : (ℕ → Bool) → Bool

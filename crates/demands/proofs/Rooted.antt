@@ -1,8 +1,8 @@
 -- A fresh store is sound, and its tree is the model's fresh one. Assumes a ladder of at most 7 codes whose sizes multiply up.
 use mathlib.Core.Path.{_≡_, refl, sym, ap, _∙_}
 use mathlib.Core.Bool.{Bool, true, false, _&&_, cond, true≢false}
-use mathlib.Core.List.{List, [], _∷_}
-use Prim.Native.Nat.{ℕ, zero, suc, pred, _+_, _*_, _≤_, _<_}
+use mathlib.Core.List.{List, []}
+use Prim.Native.Nat.{ℕ, zero, suc, _≤_, _<_}
 use native.Mathlib.Omega.{arith}
 use lib.Dec.{leb, ltb}
 use lib.ListN.{length, set, replicate, length-replicate, length-set}
@@ -10,21 +10,19 @@ use lib.Seq.{getD-set-same}
 use borrow.Author.Tests.{le-leb, leb-true}
 use Rattle.sizes.specs.Ladder.{Ladder, largest}
 use Rattle.sizes.specs.Laws.{MultipliesUp}
-use Rattle.model.specs.Ladder.{fan, frames, top}
-use Rattle.model.specs.Calls.{seeded}
-use Rattle.model.specs.Tree.{node, Tree, empty, free}
-use Rattle.model.specs.TreeStore.{State, fresh}
+use Rattle.model.specs.Ladder.{top}
+use Rattle.model.specs.Tree.{Tree, empty, free}
+use Rattle.model.specs.TreeStore.{fresh}
 use Rattle.model.proofs.Ladder.{largest-top}
 use Rattle.model.proofs.Lists.{getD-rep}
 use Rattle.model.proofs.Free.{largest-empty, quiet-free}
-use Rattle.pool.specs.Words.{word, pack, maxOf, tokenOf, levelOf, linkOf, hasToken, fanOutOf}
+use Rattle.pool.specs.Words.{word, pack, maxOf, tokenOf, levelOf, linkOf, fanOutOf}
 use Rattle.pool.specs.View.{view}
-use Rattle.pool.specs.Regions.{Regions, regionsOf, newest}
-use Rattle.pool.specs.Blocks.{Shape, Ok, Once, Child}
+use Rattle.pool.specs.Regions.{Regions, regionsOf}
+use Rattle.pool.specs.Blocks.{Ok}
 use Rattle.pool.specs.Check.{SoundW, Marked, Rule, marksPass, maxBelow, allBelow}
 use Rattle.pool.proofs.Marks.{off-rule}
-use Rattle.pages.specs.Calls.{Store, Reply, store, plain, noRegions, SoundStore, freshReply, Places, treeOf}
-use Rattle.pages.proofs.Statements.{SoundLaws}
+use Rattle.pages.specs.Calls.{Store, store, plain, noRegions, SoundStore, freshReply, Places, treeOf}
 use Rattle.pages.proofs.Words.{fields}
 use Rattle.pages.proofs.SoundView.{sound-laws}
 

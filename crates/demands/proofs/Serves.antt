@@ -18,9 +18,9 @@ use Rattle.model.specs.Demands.{AsFrames}
 use Rattle.model.proofs.Demand2.{demand2}
 use Rattle.model.proofs.Verdict.{never}
 use Rattle.pages.specs.Calls.{Store, Reply, plain, SoundStore, shown, refusals, refusalOf, acted, lacksRoom, served, Places, treeOf}
-use Rattle.demands.specs.Demands.{inFrames, resultOf, answerOf, odd}
+use Rattle.demands.specs.Demands.{inFrames, resultOf, answerOf, unaligned, sown}
 use Rattle.pages.proofs.Shown.{sound-state, shown-same}
-use Rattle.demands.proofs.Aligned.{Aligned, refusals-frames, refusals-odd, odd-or, refusals-none}
+use Rattle.demands.proofs.Aligned.{Aligned, refusals-frames, refusals-unaligned, unaligned-or, refusals-none}
 use Rattle.demands.proofs.Acts.{Acted, lacks-is, acted-is}
 
 -- every refusal of the list has a number
@@ -113,15 +113,23 @@ module _ (L : Ladder) (most limit : ℕ) where
   acted-answer s (release b c) = refl
   acted-answer s report = refl
 
+  -- ... and the tree store's act puts a seed's region in front
+  acted-sows : (s : Store) (c : Call) → act L (treeOf L most limit s) (inFrames L most limit c) .state .regions ≡ sown L most limit (c ∷ []) (acted L most limit s c ∷ []) (shown L most limit s .regions)
+  unfolding act acted
+  acted-sows s (seed a e) = refl
+  acted-sows s (acquire c) = refl
+  acted-sows s (release b c) = refl
+  acted-sows s report = refl
+
   -- a refusal leaves the store
   leaves-plain : (s : Store) (k : ℕ) → Places L most limit s → SoundStore L most limit s → Leaves s (plain k s)
   leaves-plain s k a h = record { sound = h; places = a; length = refl; bytes = (zero-mod (bytes L smallest), zero-mod (bytes L smallest), zero-mod (bytes L smallest)) }
 
   module _ (m : MultipliesUp L) (small : suc (top L) < 8) where
-    -- a call with an odd address gets 2 and leaves the store
-    pub served-odd : (s : Store) (c : Call) → odd L most limit c ≡ true → served L most limit s c ≡ plain 2 s
+    -- a call with an unaligned address gets 2 and leaves the store
+    pub served-unaligned : (s : Store) (c : Call) → unaligned L most limit c ≡ true → served L most limit s c ≡ plain 2 s
     unfolding served
-    served-odd s c o = let e : refusalOf L most limit s c ≡ 2 = refusal-kept s c 1 (refusals-odd L most limit m small (shown L most limit s) c o) in rw e
+    served-unaligned s c o = let e : refusalOf L most limit s c ≡ 2 = refusal-kept s c 1 (refusals-unaligned L most limit m small (shown L most limit s) c o) in rw e
 
     module _ (s : Store) (c : Call) (a : Places L most limit s) (h : SoundStore L most limit s) where
       -- the tree that the words hold answers as the frames do
@@ -157,17 +165,17 @@ module _ (L : Ladder) (most limit : ℕ) where
     sides-none : (s : Store) (b k : ℕ) → Places L most limit s → SoundStore L most limit s → (k ≡ 0) ⊎ (largest L < k) → Sides s (release b k)
     sides-none s b k a h z = let r = refusals-none L most limit m small (shown L most limit s) b k z in sides-refused s (release b k) a h 0 (r .0) (r .1)
 
-    -- of every call without an odd address
-    sides : (s : Store) (c : Call) → Places L most limit s → SoundStore L most limit s → odd L most limit c ≡ false → Sides s c
-    sides s c a h o = go (odd-or L most limit m small c)
+    -- of every call without an unaligned address
+    sides : (s : Store) (c : Call) → Places L most limit s → SoundStore L most limit s → unaligned L most limit c ≡ false → Sides s c
+    sides s c a h o = go (unaligned-or L most limit m small c)
       where
-        go : (odd L most limit c ≡ true) ⊎ (Aligned L c ⊎ ((b k : ℕ) × (c ≡ release b k) × ((k ≡ 0) ⊎ (largest L < k)))) → Sides s c
+        go : (unaligned L most limit c ≡ true) ⊎ (Aligned L c ⊎ ((b k : ℕ) × (c ≡ release b k) × ((k ≡ 0) ⊎ (largest L < k)))) → Sides s c
         go (inl e) = absurd (true≢false (sym e ∙ o))
         go (inr (inl k)) = sides-aligned s c a h k
         go (inr (inr x)) = rw (x .2) (sides-none s (x .0) (x .1) a h (x .3))
 
     -- SERVED IS THE TREE STORE'S STEP
-    pub served-steps : (s : Store) (c : Call) → Places L most limit s → SoundStore L most limit s → odd L most limit c ≡ false → Steps s c (served L most limit s c)
+    pub served-steps : (s : Store) (c : Call) → Places L most limit s → SoundStore L most limit s → unaligned L most limit c ≡ false → Steps s c (served L most limit s c)
     unfolding served
     served-steps s c a h o = go (sides s c a h o)
       where
@@ -178,12 +186,26 @@ module _ (L : Ladder) (most limit : ℕ) where
     -- SERVED LEAVES A SOUND STORE
     pub served-leaves : (s : Store) (c : Call) → Places L most limit s → SoundStore L most limit s → Leaves s (served L most limit s c)
     unfolding served
-    served-leaves s c a h = go (odd L most limit c) refl
+    served-leaves s c a h = go (unaligned L most limit c) refl
       where
         by : Sides s c → Leaves s (served L most limit s c)
         by (refuses k e x y) = rw (e, served) (leaves-plain s (suc k) a h)
         by (accepts e r x) = rw (e, served) (record { sound = r .sound; places = r .places; length = r .length; bytes = r .bytes })
 
-        go : (x : Bool) → odd L most limit c ≡ x → Leaves s (served L most limit s c)
-        go true o = rw (served-odd s c o) (leaves-plain s 2 a h)
+        go : (x : Bool) → unaligned L most limit c ≡ x → Leaves s (served L most limit s c)
+        go true o = rw (served-unaligned s c o) (leaves-plain s 2 a h)
+        go false o = by (sides s c a h o)
+
+    -- ITS REGIONS: an accepted seed's comes in front, and no other call changes them
+    pub served-regions : (s : Store) (c : Call) → Places L most limit s → SoundStore L most limit s
+        → shown L most limit (served L most limit s c .store) .regions ≡ sown L most limit (c ∷ []) (served L most limit s c ∷ []) (shown L most limit s .regions)
+    unfolding served
+    served-regions s c a h = go (unaligned L most limit c) refl
+      where
+        by : Sides s c → shown L most limit (served L most limit s c .store) .regions ≡ sown L most limit (c ∷ []) (served L most limit s c ∷ []) (shown L most limit s .regions)
+        by (refuses k e x y) = rw (e, served) refl
+        by (accepts e r x) = rw (e, served) (ap (λ (t : TreeState L). t .regions) (r .tree) ∙ acted-sows s c)
+
+        go : (x : Bool) → unaligned L most limit c ≡ x → shown L most limit (served L most limit s c .store) .regions ≡ sown L most limit (c ∷ []) (served L most limit s c ∷ []) (shown L most limit s .regions)
+        go true o = rw (served-unaligned s c o) refl
         go false o = by (sides s c a h o)

@@ -1,4 +1,4 @@
--- The replies of a run say what the tree store says of the same calls in frames. Assumes a ladder of at most 7 codes whose sizes multiply up, and calls without an odd address.
+-- The replies of a run say what the tree store says of the same calls in frames. Assumes a ladder of at most 7 codes whose sizes multiply up, and calls without an unaligned address.
 use mathlib.Core.Path.{_≡_, refl, sym, ap, ap₂, _∙_, subst}
 use mathlib.Core.Bool.{Bool, true, false, _&&_, not, and-eq-true-iff}
 use mathlib.Core.List.{List, [], _∷_, map}
@@ -12,13 +12,11 @@ use Rattle.model.specs.Ladder.{top}
 use Rattle.model.specs.Calls.{Call, seed, acquire, release, report, Answer, refused, stored, dealt, reported}
 use Rattle.model.specs.TreeStore.{State as TreeState, fresh, used, step}
 use Rattle.pool.specs.Words.{pack}
-use Rattle.pool.specs.Nodes.{words}
-use Rattle.pool.specs.Room.{seedW}
+use Rattle.pool.specs.Nodes.{words, seedW}
 use Rattle.pool.proofs.Regions.{frame-bytes}
 use Rattle.pages.specs.Calls.{Store, Reply, settle, SoundStore, refusalOf, acted, served, Replies, freshReply, Places, treeOf}
-use Rattle.demands.specs.Demands.{inFrames, answerOf, odd, Runs, none, more}
+use Rattle.demands.specs.Demands.{inFrames, answerOf, unaligned, Runs, none, more}
 use Rattle.demands.specs.Fences.{Line, line, lineOf}
-use Rattle.pages.proofs.Statements.{PoolLaws}
 use Rattle.pages.proofs.Decide.{sound-words}
 use Rattle.pages.proofs.Laws.{pool-laws}
 use Rattle.demands.proofs.Serves.{Steps, Leaves, served-steps, served-leaves}
@@ -42,10 +40,10 @@ module _ (L : Ladder) (most limit : ℕ) where
   linesFrom n [] t = []
   linesFrom n (c ∷ cs) t = let o = step L most n t (inFrames L most limit c) in told (o .answer) (used L (o .state .tree)) ∷ linesFrom n cs (o .state)
 
-  -- no call has an odd address
-  abbrev pub even : List Call → Bool
-  even [] = true
-  even (c ∷ cs) = not (odd L most limit c) && even cs
+  -- no call has an unaligned address
+  abbrev pub aligned-calls : List Call → Bool
+  aligned-calls [] = true
+  aligned-calls (c ∷ cs) = not (unaligned L most limit c) && aligned-calls cs
 
   -- a reply that accepts is what the call does
   accepts : (s : Store) (c : Call) → served L most limit s c .refusal ≡ 0 → served L most limit s c ≡ acted L most limit s c
@@ -89,19 +87,19 @@ module _ (L : Ladder) (most limit : ℕ) where
       told : lineOf r ≡ told (answerOf L most limit c r) (r .store .state .used)
 
     -- every reply is such a one
-    replied : (s : Store) (c : Call) (r : Reply) → Places L most limit s → SoundStore L most limit s → odd L most limit c ≡ false → Replies L most limit s c r → Replied s c r
+    replied : (s : Store) (c : Call) (r : Reply) → Places L most limit s → SoundStore L most limit s → unaligned L most limit c ≡ false → Replies L most limit s c r → Replied s c r
     replied s c r a h o q =
         let l = served-leaves L most limit m small s c a h in
         subst (Replied s c) (sym (q .sound h)) (record { steps = served-steps L most limit m small s c a h o; leaves = l; told = served-told s c (l .bytes .0) })
 
     -- A RUN HAS THE TREE STORE'S LINES
-    pub runs-lines : (s : Store) (cs : List Call) (rs : List Reply) (t : Store) → Places L most limit s → SoundStore L most limit s → even cs ≡ true → Runs L most limit s cs rs t
+    pub runs-lines : (s : Store) (cs : List Call) (rs : List Reply) (t : Store) → Places L most limit s → SoundStore L most limit s → aligned-calls cs ≡ true → Runs L most limit s cs rs t
         → map lineOf rs ≡ linesFrom (length (s .pool)) cs (treeOf L most limit s)
     unfolding linesFrom
     runs-lines s cs rs t a h e none = refl
     runs-lines s cs rs t a h e (more {cs = ds} {rs = qs} c r q rest) =
-        let x = and-eq-true-iff (not (odd L most limit c)) (even ds) .0 e in
-        let i = replied s c r a h (not-true (odd L most limit c) (x .0)) q in
+        let x = and-eq-true-iff (not (unaligned L most limit c)) (aligned-calls ds) .0 e in
+        let i = replied s c r a h (not-true (unaligned L most limit c) (x .0)) q in
         let l = i .leaves in
         let u : r .store .state .used ≡ used L (step L most (length (s .pool)) (treeOf L most limit s) (inFrames L most limit c) .state .tree) =
         used-tree (r .store) (l .places) (l .sound) ∙ ap (λ (y : TreeState L). used L (y .tree)) (i .steps .tree) in
@@ -115,7 +113,7 @@ module _ (L : Ladder) (most limit : ℕ) where
       fresh-rooted = ap (λ (r : Reply). r .store) (fresh-is L most limit p lo hi)
 
       -- A RUN FROM FRESH HAS THE LINES OF THE FRESH TREE
-      pub fresh-lines : (cs : List Call) (rs : List Reply) (s : Store) → even cs ≡ true → Runs L most limit (freshReply L most limit p .store) cs rs s → map lineOf rs ≡ linesFrom (length p) cs (fresh L)
+      pub fresh-lines : (cs : List Call) (rs : List Reply) (s : Store) → aligned-calls cs ≡ true → Runs L most limit (freshReply L most limit p .store) cs rs s → map lineOf rs ≡ linesFrom (length p) cs (fresh L)
       fresh-lines cs rs s e g =
           runs-lines (rooted L most limit p) cs rs s (rooted-places L most limit p) (rooted-sound L most limit m small p lo hi) e (subst (λ (t : Store). Runs L most limit t cs rs s) fresh-rooted g)
           ∙ ap₂ (λ (n : ℕ) (y : TreeState L). linesFrom n cs y) (length-set p 0 (pack 0 0 (largest L) 0)) (rooted-tree L most limit m small p lo)

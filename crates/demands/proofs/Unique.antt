@@ -1,4 +1,4 @@
--- A store is sound or is not, so a call has one reply. Assumes a ladder whose sizes multiply up.
+-- A store is sound or is not, so a call has one reply, and no other. Assumes a ladder whose sizes multiply up.
 use mathlib.Core.Path.{_≡_, refl, sym, _∙_}
 use mathlib.Core.Logic.{Dec·and}
 use mathlib.Core.Bool.{Bool, true, false, Bool-discrete}
@@ -15,7 +15,7 @@ use Rattle.pool.specs.Words.{fanOutOf, framesOf}
 use Rattle.pool.specs.Check.{passes, sweep, walk}
 use Rattle.pool.specs.Regions.{regionsOf}
 use Rattle.pool.specs.RegionTest.{regionsPass}
-use Rattle.pages.specs.Calls.{Store, Reply, Places, SoundStore, Replies, freshReply}
+use Rattle.pages.specs.Calls.{Store, Reply, plain, Places, SoundStore, served, Replies, freshReply}
 use Rattle.pages.proofs.Decide.{Checked, check-sound, sound-check}
 
 -- what the check asks is decided, clause by clause
@@ -35,7 +35,15 @@ module _ (L : Ladder) (most limit : ℕ) (m : MultipliesUp L) where
       let e = s .state .ends in
       map-dec (check-sound L m most limit u b e (s .pool) (a .starts) (a .ends)) (sound-check L m most limit u b e (s .pool) (a .starts) (a .ends)) (checked-dec L limit u b e (s .pool))
 
-  -- A CALL HAS ONE REPLY
+  -- A CALL HAS A REPLY
+  pub replies : (s : Store) (c : Call) → Places L most limit s → (r : Reply) × Replies L most limit s c r
+  replies s c a = go (sound-dec s a)
+    where
+      go : Dec (SoundStore L most limit s) → (r : Reply) × Replies L most limit s c r
+      go (yes h) = (served L most limit s c, record { unsound = λ k. absurd (k h); sound = λ k. refl })
+      go (no h) = (plain 10 s, record { unsound = λ k. refl; sound = λ k. absurd (h k) })
+
+  -- ... AND ONE ALONE
   pub unique : (s : Store) (c : Call) (r r' : Reply) → Replies L most limit s c r → Replies L most limit s c r' → Places L most limit s → r ≡ r'
   unique s c r r' q q' a = go (sound-dec s a)
     where

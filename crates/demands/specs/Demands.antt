@@ -9,16 +9,16 @@ use lib.ListN.{length, getD}
 use Rattle.sizes.specs.Ladder.{Ladder, smallest, largest, bytes, addressFrame}
 use Rattle.model.specs.Ladder.{top}
 use Rattle.model.specs.Frames.{Wholly, Lowest, bit, count}
-use Rattle.model.specs.Calls.{seeded, Call, seed, acquire, release, report, Answer, refused, stored, dealt, reported, verdict, Outcome}
+use Rattle.model.specs.Calls.{Region, seeded, Call, seed, acquire, release, report, Answer, refused, stored, dealt, reported, Outcome}
 use Rattle.model.specs.FrameStore.{Frames, memory, size, Same, frameStep}
 use Rattle.model.specs.TreeStore.{used, act}
 use Rattle.model.specs.Runs.{reckon}
 use Rattle.model.specs.Rust.{gives}
 use Rattle.model.specs.Original.{emptyAllocator}
-use Rattle.model.specs.AsOriginal.{Said, Addressable, originals, tellings}
+use Rattle.model.specs.AsOriginal.{Said, originals, tellings}
 use Rattle.pool.specs.Regions.{Holds}
 use Rattle.pages.specs.Frames.{isFree}
-use Rattle.pages.specs.Calls.{Store, Reply, plain, Places, SoundStore, shown, treeOf, refusals, Replies, freshReply}
+use Rattle.pages.specs.Calls.{Store, store, Reply, plain, noRegions, Places, SoundStore, shown, treeOf, Replies, freshReply}
 
 -- n is k where P holds, and what Rest says where P does not: the first condition in order wins
 abbrev pub first : (n k : ℕ) (P Rest : Type 0) → Type 0
@@ -76,20 +76,22 @@ module _ (L : Ladder) (most limit : ℕ) where
     -- each refusal exactly when document 01 says, the first in order winning
     pub number : (s : Store) → Places L most limit s → (c : Call) (r : Reply) → Replies L most limit s c r → Number s c (r .refusal)
     pub fresh : (p : List ℕ) → first (freshReply L most limit p .refusal) 11 ((length p ≡ 0) ⊎ (limit < length p)) (freshReply L most limit p .refusal ≡ 0)
+    -- refused, fresh hands back zeros and changes no pool word
+    pub fresh-unchanged : (p : List ℕ) → freshReply L most limit p .refusal ≢ 0 → freshReply L most limit p ≡ plain 11 (store (noRegions most 0) p)
     -- a refusal hands back the state it got, changes no pool word, and answers zeros
     pub unchanged : (s : Store) (c : Call) (r : Reply) → Replies L most limit s c r → r .refusal ≢ 0 → r ≡ plain (r .refusal) s
 
   -- ---- DEMAND 2
-  -- an address that is no multiple of a page, which no frame number can say; of a release, where the code is one
-  abbrev pub odd : Call → Bool
-  odd (seed a e) = not (eqb (a % bytes L smallest) 0 && eqb (e % bytes L smallest) 0)
-  odd (acquire c) = false
-  odd (release b c) = not (eqb (b % bytes L smallest) 0) && (leb smallest c && leb c (largest L))
-  odd report = false
+  -- an address that is no multiple of a page, which no frame number can say; of a release only where its number is a code
+  abbrev pub unaligned : Call → Bool
+  unaligned (seed a e) = not (eqb (a % bytes L smallest) 0 && eqb (e % bytes L smallest) 0)
+  unaligned (acquire c) = false
+  unaligned (release b c) = not (eqb (b % bytes L smallest) 0) && (leb smallest c && leb c (largest L))
+  unaligned report = false
 
   -- the frame store, asked in bytes
   abbrev pub asked : Frames → Call → Outcome Frames
-  asked g c = cond (odd c) (record { state = g; answer = refused 2 }) (frameStep L most g (inFrames c))
+  asked g c = cond (unaligned c) (record { state = g; answer = refused 2 }) (frameStep L most g (inFrames c))
 
   -- the reply r to the call c on the sound store s is the frame store's
   pub record AsFrames (s : Store) (c : Call) (r : Reply) : Type 0 where
@@ -98,7 +100,9 @@ module _ (L : Ladder) (most limit : ℕ) where
     pub leaves : r .refusal ≢ 9 → Same L (shown L most limit (r .store)) (asked (shown L most limit s) c .state)
     pub bytes : (r .base % bytes L smallest ≡ 0) × (r .seeded % bytes L smallest ≡ 0) × (r .free % bytes L smallest ≡ 0)
     -- 9 exactly if the frame store accepts and the openings would carry used past the pool's length
-    pub nine : (r .refusal ≡ 9) ↔ ((verdict (refusals L most limit (shown L most limit s) c) ≡ 0) × Overfull s c)
+    pub nine : (r .refusal ≡ 9) ↔ (((k : ℕ) → asked (shown L most limit s) c .answer ≢ refused k) × Overfull s c)
+    -- every call leaves the store sound
+    pub keeps : SoundStore L most limit (r .store)
 
   -- an acquire takes the lowest aligned, wholly free block of the size asked, and says 'out of pages' exactly if none exists
   pub record Lowest-first (s : Store) (c : ℕ) (r : Reply) : Type 0 where
@@ -120,7 +124,7 @@ module _ (L : Ladder) (most limit : ℕ) where
     pub frames : (s : Store) → Places L most limit s → SoundStore L most limit s → (c : Call) (r : Reply) → Replies L most limit s c r → AsFrames s c r
     pub lowest : (s : Store) → Places L most limit s → SoundStore L most limit s → (c : ℕ) (r : Reply) → Replies L most limit s (acquire c) r → Lowest-first s c r
     -- after the same calls from a fresh store, each page dealt and each 'out of pages' is the original's
-    pub original : Addressable L → (p : List ℕ) → freshReply L most limit p .refusal ≡ 0 → (cs : List Call) (rs : List Reply) (s : Store) → Runs (freshReply L most limit p .store) cs rs s
+    pub original : (p : List ℕ) → freshReply L most limit p .refusal ≡ 0 → (cs : List Call) (rs : List Reply) (s : Store) → Runs (freshReply L most limit p .store) cs rs s
         → originals L (saids cs rs) (emptyAllocator (suc (top L))) ≡ gives (tellings L (saids cs rs))
 
   -- ---- DEMAND 3
@@ -130,29 +134,38 @@ module _ (L : Ladder) (most limit : ℕ) where
   held (c ∷ cs) [] h = h
   held (c ∷ cs) (r ∷ rs) h = held cs rs (reckon L (inFrames c) (answerOf c r) h)
 
-  -- t is newly seeded with the first n regions of s, on any pool
+  -- the regions after a run, in frames, reckoned so too: an accepted seed puts its own in front
+  abbrev pub sown : List Call → List Reply → List Region → List Region
+  sown [] rs gs = gs
+  sown (c ∷ cs) [] gs = gs
+  sown (c ∷ cs) (r ∷ rs) gs = sown cs rs (elim (r .refusal) [ zero ↦ elim c [ seed a e ↦ record { start = addressFrame L a; end = addressFrame L e } ∷ gs | acquire k ↦ gs | release b k ↦ gs | report ↦ gs ] | suc n ↦ gs ])
+
+  -- the seed of the region at place n
   abbrev pub region : Store → ℕ → Call
   region s n = seed (getD (s .state .starts) n 0) (getD (s .state .ends) n 0)
 
+  -- t is newly seeded with the first n regions of s, on any pool
   pub data Newly (s : Store) : ℕ → Store → Type 0 where
     fresh : (p : List ℕ) → freshReply L most limit p .refusal ≡ 0 → Newly s 0 (freshReply L most limit p .store)
     next : {n : ℕ} {t : Store} (r : Reply) → Newly s n t → Replies L most limit t (region s n) r → r .refusal ≡ 0 → Newly s (suc n) (r .store)
 
-  -- what holds of a store and the held frames after any calls from fresh
-  pub record Kept (s : Store) (h : ℕ → Bool) : Type 0 where
+  -- what holds of a store, its regions and the held frames after any calls from fresh
+  pub record Kept (s : Store) (gs : List Region) (h : ℕ → Bool) : Type 0 where
     -- the store is sound
     pub sound : SoundStore L most limit s
+    -- the regions are those of the accepted seeds, the newest first
+    pub seeds : shown L most limit s .regions ≡ gs
     -- every seeded frame is free or held, never both, and no other frame is either: the bits add up
-    pub split : (f : ℕ) → f < memory L → bit (seeded (shown L most limit s .regions) f) ≡ bit (isFree L (s .pool) f) + bit (h f)
-    pub beyond : (f : ℕ) → memory L ≤ f → (seeded (shown L most limit s .regions) f ≡ false) × (h f ≡ false)
+    pub split : (f : ℕ) → f < memory L → bit (seeded gs f) ≡ bit (isFree L (s .pool) f) + bit (h f)
+    pub beyond : (f : ℕ) → memory L ≤ f → (seeded gs f ≡ false) × (h f ≡ false)
     -- free plus held bytes equal seeded bytes, by the report
     pub totals : (r : Reply) → Replies L most limit s report r → r .free + count h (memory L) * bytes L smallest ≡ r .seeded
     -- no acquire deals a held frame
     pub unheld : (c : ℕ) (r : Reply) → Replies L most limit s (acquire c) r → r .refusal ≡ 0 → Wholly h (addressFrame L (r .base)) (size L c) false
     -- its regions can be seeded anew, unless pool room is missing; once nothing is held an acquire gives the base that the store newly seeded with them gives, unless either lacks pool room
-    pub reseeds : (n : ℕ) (t : Store) (r : Reply) → n < length (shown L most limit s .regions) → Newly s n t → Replies L most limit t (region s n) r → (r .refusal ≡ 0) ⊎ (r .refusal ≡ 9)
-    pub settled : ((f : ℕ) → h f ≡ false) → (t : Store) → Newly s (length (shown L most limit s .regions)) t → (c : ℕ) (r r' : Reply)
+    pub reseeds : (n : ℕ) (t : Store) (r : Reply) → n < length gs → Newly s n t → Replies L most limit t (region s n) r → (r .refusal ≡ 0) ⊎ (r .refusal ≡ 9)
+    pub settled : ((f : ℕ) → h f ≡ false) → (t : Store) → Newly s (length gs) t → (c : ℕ) (r r' : Reply)
         → Replies L most limit s (acquire c) r → Replies L most limit t (acquire c) r' → r .refusal ≢ 9 → r' .refusal ≢ 9 → (r .refusal ≡ r' .refusal) × (r .base ≡ r' .base)
 
   abbrev pub Demand3 : Type 0
-  Demand3 = (p : List ℕ) → freshReply L most limit p .refusal ≡ 0 → (cs : List Call) (rs : List Reply) (s : Store) → Runs (freshReply L most limit p .store) cs rs s → Kept s (held cs rs (λ f. false))
+  Demand3 = (p : List ℕ) → freshReply L most limit p .refusal ≡ 0 → (cs : List Call) (rs : List Reply) (s : Store) → Runs (freshReply L most limit p .store) cs rs s → Kept s (sown cs rs []) (held cs rs (λ f. false))

@@ -1,4 +1,4 @@
--- The cases at the fences that document 01 marks P, as one list: what the promises say, from fresh, on pools of zeros.
+-- The cases at the fences that document 01 marks P, and the unmarked one, as one list: what the promises say, from fresh, on pools of zeros.
 use mathlib.Core.Path.{_≡_}
 use mathlib.Core.List.{List, [], _∷_, _++_, map}
 use Prim.Native.Nat.{ℕ, _+_, _*_, _^_, _-_, _<_}
@@ -50,6 +50,7 @@ pub record Fences : Type 0 where
   pub P3 : Leaves 16384 (seed 0 (2 ^ 47) ∷ []) (line 0 0 0 1 ∷ []) (λ s. word (s .pool) 0 ≡ 110) × Says 16384 (seed 0 (2 ^ 47) ∷ acquire 6 ∷ codes) (line 0 0 0 1 ∷ line 0 0 0 1 ∷ out 1)
   pub P4 : Says 16384 (seed 0 (2 ^ 47 + 4096) ∷ []) (line 3 0 0 1 ∷ [])
   pub P5 : Says 16384 (seed 4096 4096 ∷ []) (line 2 0 0 1 ∷ [])
+  -- 42 is the token of 16 KiB, the two 25 within `document` are those of 4 KiB
   pub P6 : Leaves 1423 (seed 2147483648 2147508224 ∷ []) (line 0 0 0 1418 ∷ []) (λ s. s .pool ≡ document 226 33106 98754 164402 42 (of 5 0 ∷ []))
   pub P7 : Says 16384 (seed 2147483648 2147508224 ∷ acquire 1 ∷ acquire 2 ∷ acquire 1 ∷ release 2147483648 1 ∷ release 2147483648 1 ∷ [])
       (line 0 0 0 1418 ∷ line 0 2147483648 7 1423 ∷ line 8 0 0 1423 ∷ line 0 2147487744 8 1423 ∷ line 0 0 0 1423 ∷ line 7 0 0 1423 ∷ [])

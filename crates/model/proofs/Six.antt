@@ -20,7 +20,7 @@ pub six-tables : OfTables six
 six-tables = of-tables six six-multiplies
 
 -- 128 TiB are below 2^64
-six-addressable : Addressable six
+pub six-addressable : Addressable six
 unfolding bytes largest-code word
 six-addressable = omega arith
 

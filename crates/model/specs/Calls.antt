@@ -1,4 +1,4 @@
--- What a store is asked and what it answers (document 01, 'What the calls do' and 'Refusal numbers'). Addresses are frame numbers.
+-- What a store is asked and what it answers (document 01, 'What the calls do' and 'Refusal numbers'). Addresses are frame numbers; `pages` asks the same calls in bytes.
 use mathlib.Core.Bool.{Bool, true, false}
 use mathlib.Core.List.{List, [], _∷_}
 use Prim.Native.Nat.{ℕ, zero, suc, _-_, _≤_, _<_}

@@ -32,10 +32,9 @@ use Rattle.pool.specs.RegionTest.{regionsPass}
 use Rattle.pool.specs.Blocks.{Readable}
 use Rattle.pool.specs.Check.{SoundW}
 use Rattle.pool.specs.Asks.{Maxed, StoreAsk, TakeAsk, PickAsk, NeedAsk, SoundAsk}
-use Rattle.pool.proofs.Sizes.{frame-address}
 use Rattle.pool.proofs.Kept.{shape-readable, soundW-tree, soundW-largest, takeW-sound}
 use Rattle.pool.proofs.Pick.{pickW-is}
-use Rattle.pool.proofs.Sizes.{page, frames-own, root-level, top-frames}
+use Rattle.pool.proofs.Sizes.{page, frames-own, root-level, small-six, top-frames, frame-address}
 use Rattle.pool.proofs.With.{newest-sum, newest-fit}
 use Rattle.pages.specs.declared.State.{State}
 use Rattle.pages.specs.Frames.{isFree}
@@ -68,12 +67,9 @@ false-of true n = absurd (n refl)
 false-of false n = refl
 
 -- ---- the six sizes
--- the root's level, and that a level fits its field
+-- the root's level
 six-top : largestCode six ≡ suc (top six)
 six-top = largest-most ∙ root-level
-
-six-small : suc (top six) < 8
-six-small = omega (arith, root-level)
 
 -- a number is no code, or its own
 code-cases : (n : ℕ) → ((code six n ≡ 0) × ((n ≡ 0) ⊎ (largestCode six < n))) ⊎ ((code six n ≡ n) × (1 ≤ n) × (n ≤ largestCode six))
@@ -126,12 +122,6 @@ named-within b (suc d) k = omega (arith, named-fits b (suc d) k, frames-pos six 
 
 -- ---- replies
 module _ (s : Store) where
-  -- a call that is refused
-  pub refused-reply : (c : Call) (r : ℕ) → r ≡ refusalOf six places poolLimit s c → (r ≡ 0 → ⊥) → plain r s ≡ served six places poolLimit s c
-  unfolding served
-  refused-reply c zero e z = absurd (z refl)
-  refused-reply c (suc n) e z = ap (λ (x : ℕ). settle x s (acted six places poolLimit s c)) e
-
   -- a call that is accepted
   accepted-reply : (c : Call) → refusalOf six places poolLimit s c ≡ 0 → acted six places poolLimit s c ≡ served six places poolLimit s c
   unfolding served
@@ -253,12 +243,12 @@ module _ (s : Store) (a : Places six places poolLimit s) (h : SoundStore six pla
 
   -- it is none
   pub acquire-none : (n c : ℕ) → c ≡ code six n → c ≡ 0 → 1 ≡ refusal (acquire n)
-  acquire-none n c e z = sym (acquire-1 six places poolLimit six-multiplies six-small s a h n (code-none n c e z))
+  acquire-none n c e z = sym (acquire-1 six places poolLimit six-multiplies small-six s a h n (code-none n c e z))
 
   -- m is the largest free code: too small, or enough
   module _ (n root c m : ℕ) (w : Wanted n root c) (e : m ≡ largest (top six) t) where
     pub acquire-out : m < c → 8 ≡ refusal (acquire n)
-    acquire-out l = sym (acquire-8 six places poolLimit six-multiplies six-small s a h n (w .low) (w .high) (omega (arith, l, e, max-is, w .code-is)))
+    acquire-out l = sym (acquire-8 six places poolLimit six-multiplies small-six s a h n (w .low) (w .high) (omega (arith, l, e, max-is, w .code-is)))
 
     offered : c ≤ m → c ≤ maxOf (word p 0)
     offered l = omega (arith, l, e, max-is)
@@ -278,27 +268,27 @@ module _ (s : Store) (a : Places six places poolLimit s) (h : SoundStore six pla
           eb' = eb ∙ λ i. pickW six (pred (w .root-is i)) (pred (w .code-is i)) p 0
 
       pub acquire-full : length p - u < k → 9 ≡ refusal (acquire n)
-      acquire-full r = sym (acquire-9 six places poolLimit six-multiplies six-small s a h n (w .low) (omega (arith, offered l, w .code-is)) (omega (arith, r, opens, h .high)))
+      acquire-full r = sym (acquire-9 six places poolLimit six-multiplies small-six s a h n (w .low) (omega (arith, offered l, w .code-is)) (omega (arith, r, opens, h .high)))
 
       pub acquire-done : k ≤ length p - u → 0 ≡ refusal (acquire n)
-      acquire-done r = sym (acquire-0 six places poolLimit six-multiplies six-small s a h n (w .low) (omega (arith, offered l, w .code-is)) (omega (arith, r, opens, h .high)))
+      acquire-done r = sym (acquire-0 six places poolLimit six-multiplies small-six s a h n (w .low) (omega (arith, offered l, w .code-is)) (omega (arith, r, opens, h .high)))
 
   -- an acquire without refusal
   module _ (n : ℕ) (z : refusal (acquire n) ≡ 0) where
     -- the number is a code that the root offers, and the pool has room
     code-of : (1 ≤ n) × (n ≤ largestCode six)
     code-of = (
-      le-of 1 n (λ l. let x : n ≡ 0 = omega (arith, l) in omega (arith, z, acquire-1 six places poolLimit six-multiplies six-small s a h n (inl x))),
-      le-of n (largestCode six) (λ l. omega (arith, z, acquire-1 six places poolLimit six-multiplies six-small s a h n (inr l))),
+      le-of 1 n (λ l. let x : n ≡ 0 = omega (arith, l) in omega (arith, z, acquire-1 six places poolLimit six-multiplies small-six s a h n (inl x))),
+      le-of n (largestCode six) (λ l. omega (arith, z, acquire-1 six places poolLimit six-multiplies small-six s a h n (inr l))),
     )
 
     offer-of : n ≤ maxOf (word p 0)
-    offer-of = le-of n (maxOf (word p 0)) (λ l. omega (arith, z, acquire-8 six places poolLimit six-multiplies six-small s a h n (code-of .0) (code-of .1) l))
+    offer-of = le-of n (maxOf (word p 0)) (λ l. omega (arith, z, acquire-8 six places poolLimit six-multiplies small-six s a h n (code-of .0) (code-of .1) l))
 
     room-of : u + openingsW six (top six) (pred n) p 0 (pickW six (top six) (pred n) p 0) ≤ length p
     room-of =
         le-of (u + openingsW six (top six) (pred n) p 0 (pickW six (top six) (pred n) p 0)) (length p)
-        (λ l. omega (arith, z, acquire-9 six places poolLimit six-multiplies six-small s a h n (code-of .0) offer-of l))
+        (λ l. omega (arith, z, acquire-9 six places poolLimit six-multiplies small-six s a h n (code-of .0) offer-of l))
 
     number-of : (c : ℕ) → c ≡ code six n → c ≡ n
     number-of c e = e ∙ code-same n (code-of .0) (code-of .1)
@@ -315,7 +305,7 @@ module _ (s : Store) (a : Places six places poolLimit s) (h : SoundStore six pla
         let o : suc d ≤ maxOf (word p 0) = omega (arith, e, offer-of) in
         let deep : d ≤ top six = omega (arith, e, code-of .1, six-top) in
         let room : u + openingsW six (top six) (pred (suc d)) p 0 (pickW six (top six) (pred (suc d)) p 0) ≤ length p = subst (λ (x : ℕ). u + openingsW six (top six) (pred x) p 0 (pickW six (top six) (pred x) p 0) ≤ length p) (sym e) room-of in
-        let r = takeW-sound six (top six) d p u six-small words-of deep o (omega (arith, room, ap (openingsW six (top six) d p 0) (picks d o))) in
+        let r = takeW-sound six (top six) d p u small-six words-of deep o (omega (arith, room, ap (openingsW six (top six) d p 0) (picks d o))) in
         omega (arith, r .0, pick-lowest six (top six) d t (tree .1) (omega (arith, o, max-is)) .fits, top-frames)
 
     -- the answer of what `acquire_page_token` left
@@ -346,7 +336,7 @@ module _ (s : Store) (a : Places six places poolLimit s) (h : SoundStore six pla
 
   -- the number is no code
   pub release-none : (b n c : ℕ) → c ≡ code six n → c ≡ 0 → 1 ≡ refusal (release b n)
-  release-none b n c e z = sym (release-1 six places poolLimit six-multiplies six-small s a h b n (code-none n c e z))
+  release-none b n c e z = sym (release-1 six places poolLimit six-multiplies small-six s a h b n (code-none n c e z))
 
   -- the number is a code of k bytes: b is no multiple of them, or ends past memory, or the block is named
   module _ (b n c k : ℕ) (e : c ≡ code six n) (z : c ≡ 0 → ⊥) (ek : k ≡ bytes six c) where
@@ -361,7 +351,7 @@ module _ (s : Store) (a : Places six places poolLimit s) (h : SoundStore six pla
         frames-some (suc d) l = frames-pos six d
 
     pub release-odd : (b % k ≡ 0 → ⊥) → 2 ≡ refusal (release b n)
-    release-odd o = let w = code-some n c e z in sym (release-2 six places poolLimit six-multiplies six-small s a h b n (w .1) (w .2) (λ y. o (ap (λ (m : ℕ). b % m) bytes-of ∙ y)))
+    release-odd o = let w = code-some n c e z in sym (release-2 six places poolLimit six-multiplies small-six s a h b n (w .1) (w .2) (λ y. o (ap (λ (m : ℕ). b % m) bytes-of ∙ y)))
 
     module _ (root l : ℕ) (er : root ≡ largestCode six) (el : l ≡ bytes six root) (o : b % k ≡ 0) where
       last-of : l ≡ bytes six (largestCode six)
@@ -371,7 +361,7 @@ module _ (s : Store) (a : Places six places poolLimit s) (h : SoundStore six pla
       aligned-of = ap (λ (m : ℕ). b % m) (sym bytes-of) ∙ o
 
       pub release-past : l - k < b → 3 ≡ refusal (release b n)
-      release-past y = let w = code-some n c e z in sym (release-3 six places poolLimit six-multiplies six-small s a h b n (w .1) (w .2) aligned-of (omega (arith, y, bytes-of, last-of)))
+      release-past y = let w = code-some n c e z in sym (release-3 six places poolLimit six-multiplies small-six s a h b n (w .1) (w .2) aligned-of (omega (arith, y, bytes-of, last-of)))
 
       pub gives : (f : ℕ) → f ≡ addressFrame six b → b ≤ l - k → Given b n root c f
       gives f ef y =
@@ -396,53 +386,53 @@ module _ (s : Store) (a : Places six places poolLimit s) (h : SoundStore six pla
       covers = let y : k ≡ size six n = ek ∙ ap (framesOf six) (g .code-is) ∙ sym (frames-own n (g .block .low)) in λ i. covered regions (g .frame-is i) (y i)
 
       pub release-bare : covered regions f k ≡ false → 6 ≡ refusal (release b n)
-      release-bare v = sym (release-6 six places poolLimit six-multiplies six-small s a h b n (g .block) (sym covers ∙ v))
+      release-bare v = sym (release-6 six places poolLimit six-multiplies small-six s a h b n (g .block) (sym covers ∙ v))
 
       module _ (v : covered regions f k ≡ true) (x : Bool) (ex : x ≡ anyFreeW six (pred root) (pred c) p 0 f) where
         frees : x ≡ anyFreeW six (top six) (pred n) p 0 (addressFrame six b)
         frees = ex ∙ λ i. anyFreeW six (pred (g .root-is i)) (pred (g .code-is i)) p 0 (g .frame-is i)
 
         pub release-free : x ≡ true → 7 ≡ refusal (release b n)
-        release-free y = sym (release-7 six places poolLimit six-multiplies six-small s a h b n (g .block) (sym covers ∙ v) (sym frees ∙ y))
+        release-free y = sym (release-7 six places poolLimit six-multiplies small-six s a h b n (g .block) (sym covers ∙ v) (sym frees ∙ y))
 
         module _ (y : x ≡ false) (o : ℕ) (eo : o ≡ openingsW six (pred root) (pred c) p 0 f) where
           opened : o ≡ openingsW six (top six) (pred n) p 0 (addressFrame six b)
           opened = eo ∙ λ i. openingsW six (pred (g .root-is i)) (pred (g .code-is i)) p 0 (g .frame-is i)
 
           pub release-full : length p - u < o → 9 ≡ refusal (release b n)
-          release-full l = sym (release-9 six places poolLimit six-multiplies six-small s a h b n (g .block) (sym covers ∙ v) (sym frees ∙ y) (omega (arith, l, opened, h .high)))
+          release-full l = sym (release-9 six places poolLimit six-multiplies small-six s a h b n (g .block) (sym covers ∙ v) (sym frees ∙ y) (omega (arith, l, opened, h .high)))
 
           pub release-done : o ≤ length p - u → 0 ≡ refusal (release b n)
-          release-done l = sym (release-0 six places poolLimit six-multiplies six-small s a h b n (g .block) (sym covers ∙ v) (sym frees ∙ y) (omega (arith, l, opened, h .high)))
+          release-done l = sym (release-0 six places poolLimit six-multiplies small-six s a h b n (g .block) (sym covers ∙ v) (sym frees ∙ y) (omega (arith, l, opened, h .high)))
 
   -- a release without refusal
   module _ (b n : ℕ) (z : refusal (release b n) ≡ 0) where
     -- the block is named, covered and held, and the pool has room
     codes : (1 ≤ n) × (n ≤ largestCode six)
     codes = (
-      le-of 1 n (λ l. let x : n ≡ 0 = omega (arith, l) in omega (arith, z, release-1 six places poolLimit six-multiplies six-small s a h b n (inl x))),
-      le-of n (largestCode six) (λ l. omega (arith, z, release-1 six places poolLimit six-multiplies six-small s a h b n (inr l))),
+      le-of 1 n (λ l. let x : n ≡ 0 = omega (arith, l) in omega (arith, z, release-1 six places poolLimit six-multiplies small-six s a h b n (inl x))),
+      le-of n (largestCode six) (λ l. omega (arith, z, release-1 six places poolLimit six-multiplies small-six s a h b n (inr l))),
     )
 
     even : b % bytes six n ≡ 0
-    even = eq-of (b % bytes six n) 0 (λ l. omega (arith, z, release-2 six places poolLimit six-multiplies six-small s a h b n (codes .0) (codes .1) l))
+    even = eq-of (b % bytes six n) 0 (λ l. omega (arith, z, release-2 six places poolLimit six-multiplies small-six s a h b n (codes .0) (codes .1) l))
 
     names : Named six b n
     names = record {
       low = codes .0;
       high = codes .1;
       aligned = even;
-      within = le-of b (bytes six (largestCode six) - bytes six n) (λ l. omega (arith, z, release-3 six places poolLimit six-multiplies six-small s a h b n (codes .0) (codes .1) even l));
+      within = le-of b (bytes six (largestCode six) - bytes six n) (λ l. omega (arith, z, release-3 six places poolLimit six-multiplies small-six s a h b n (codes .0) (codes .1) even l));
     }
 
     holds : covered (regionsOf six (s .state .starts) (s .state .ends)) (addressFrame six b) (size six n) ≡ true
-    holds = true-of (covered (regionsOf six (s .state .starts) (s .state .ends)) (addressFrame six b) (size six n)) (λ l. omega (arith, z, release-6 six places poolLimit six-multiplies six-small s a h b n names l))
+    holds = true-of (covered (regionsOf six (s .state .starts) (s .state .ends)) (addressFrame six b) (size six n)) (λ l. omega (arith, z, release-6 six places poolLimit six-multiplies small-six s a h b n names l))
 
     held : anyFreeW six (top six) (pred n) p 0 (addressFrame six b) ≡ false
-    held = false-of (anyFreeW six (top six) (pred n) p 0 (addressFrame six b)) (λ l. omega (arith, z, release-7 six places poolLimit six-multiplies six-small s a h b n names holds l))
+    held = false-of (anyFreeW six (top six) (pred n) p 0 (addressFrame six b)) (λ l. omega (arith, z, release-7 six places poolLimit six-multiplies small-six s a h b n names holds l))
 
     space : u + openingsW six (top six) (pred n) p 0 (addressFrame six b) ≤ length p
-    space = le-of (u + openingsW six (top six) (pred n) p 0 (addressFrame six b)) (length p) (λ l. omega (arith, z, release-9 six places poolLimit six-multiplies six-small s a h b n names holds held l))
+    space = le-of (u + openingsW six (top six) (pred n) p 0 (addressFrame six b)) (length p) (λ l. omega (arith, z, release-9 six places poolLimit six-multiplies small-six s a h b n names holds held l))
 
     module _ (root c f : ℕ) (er : root ≡ largestCode six) (ec : c ≡ code six n) (ef : f ≡ addressFrame six b) where
       same-code : c ≡ n

@@ -19,10 +19,10 @@ use Rattle.model.specs.Lists.{sum}
 use Rattle.model.specs.TreeStore.{apart, overlap, largestFit}
 use Rattle.model.proofs.Regions.{apart-iff}
 use Rattle.pool.specs.Limits.{places, poolLimit, mostFrames}
-use Rattle.pool.specs.Nodes.{storeW, words}
+use Rattle.pool.specs.Nodes.{storeW, words, seedW}
 use Rattle.pool.specs.Check.{SoundW}
 use Rattle.pool.specs.Regions.{Regions, regionsOf}
-use Rattle.pool.specs.Room.{seedOpeningsW, seedW}
+use Rattle.pool.specs.Room.{seedOpeningsW}
 use Rattle.pool.specs.View.{view}
 use Rattle.pool.specs.Words.{framesOf, word}
 use Rattle.pool.specs.Asks.{SeedAsk, SpanAsk, StoreAsk}
@@ -30,17 +30,12 @@ use Rattle.pool.proofs.Kept.{shape-readable}
 use Rattle.pool.proofs.Regions.{regions-fit, regions-if}
 use Rattle.pool.proofs.RegionTest.{apart-sum}
 use Rattle.pool.proofs.SeedSteps.{Next, seedW-step, span-next}
-use Rattle.pool.proofs.Sizes.{top-frames}
+use Rattle.pool.proofs.Sizes.{top-frames, small-six}
 use Rattle.pool.proofs.With.{newest-length}
 use Rattle.pages.specs.Calls.{Store, store, plain, settle, SoundStore, refusalOf, acted, served, wordsOf, Places}
 use Rattle.pages.proofs.Statements.{Covered}
 use Rattle.pages.proofs.SoundView.{sound-laws}
 use Rattle.pages.proofs.Refusals.{Spans, seed-2, seed-3, seed-4, seed-5, seed-9}
-
--- a node's level has room for the six sizes
-pub small-six : suc (top six) < 8
-unfolding top largest
-small-six = omega arith
 
 -- ---- the stores of a seed, one after the other
 module _ (p : List ℕ) (u a e root code : ℕ) (s : SpanAsk p u a e) (l : a < e) (r : root ≡ largest six) (c : code ≡ suc (largestFit six (top six) a e)) where

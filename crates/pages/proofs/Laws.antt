@@ -15,8 +15,8 @@ use Rattle.model.specs.Tree.{Tree, free, largest, pick, remove}
 use Rattle.model.specs.Tree.{words as treeWords}
 use Rattle.model.specs.TreeStore.{seedFrom}
 use Rattle.pages.proofs.Statements.{Apart, Changes, Held, Laws, NodeLaws, Offered, PoolLaws, Seeds, placesIn}
-use Rattle.pool.specs.Nodes.{Words, storeW, takeW, words}
-use Rattle.pool.specs.Room.{openingsW, pickW, seedOpeningsW, seedW}
+use Rattle.pool.specs.Nodes.{Words, storeW, takeW, words, seedW}
+use Rattle.pool.specs.Room.{openingsW, pickW, seedOpeningsW}
 use Rattle.pool.specs.View.{view}
 use Rattle.pool.specs.Words.{fanOutOf, framesOf, maxOf, word}
 use Rattle.pool.specs.Asks.{Maxed}

@@ -24,9 +24,9 @@ use Rattle.model.specs.Ladder.{fan, frames, top}
 use Rattle.model.specs.Tree.{Tree, child, empty, free, largest, node, pick, remove, store}
 use Rattle.model.specs.TreeStore.{seedFrom}
 use Rattle.pages.proofs.Statements.{Covered, Held, Offered, SoundLaws}
-use Rattle.pool.specs.Nodes.{storeW, takeW, words}
+use Rattle.pool.specs.Nodes.{storeW, takeW, words, seedW}
 use Rattle.pool.specs.Regions.{Regions, regionsOf}
-use Rattle.pool.specs.Room.{openingsW, seedOpeningsW, seedW}
+use Rattle.pool.specs.Room.{openingsW, seedOpeningsW}
 use Rattle.pages.specs.Sound.{Below, Node, Sound, deeper, itself}
 use Rattle.pool.specs.View.{block, view}
 use Rattle.pool.specs.Words.{fanOutOf, framesOf, hasToken, linkOf, tokenOf, word}

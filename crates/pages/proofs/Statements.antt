@@ -16,8 +16,8 @@ use Rattle.model.specs.Tree.{words as treeWords, free, Sound, openings, store, 
 use Rattle.model.specs.TreeStore.{anyFree, seedFrom}
 use Rattle.model.specs.Laws.{BlockIn}
 use Rattle.pool.specs.Words.{word, pack, maxOf, tokenOf, levelOf, linkOf, framesOf}
-use Rattle.pool.specs.Nodes.{Words, words, storeW, takeW}
-use Rattle.pool.specs.Room.{openingsW, pickW, anyFreeW, seedOpeningsW, seedW}
+use Rattle.pool.specs.Nodes.{Words, words, storeW, takeW, seedW}
+use Rattle.pool.specs.Room.{openingsW, pickW, anyFreeW, seedOpeningsW}
 use Rattle.pool.specs.View.{view}
 use Rattle.pool.specs.Regions.{Regions, regionsOf}
 use Rattle.pages.specs.Sound.{Below, times, Sound as SoundStore}

@@ -8,12 +8,11 @@ use lib.ListN.{length, set, replicate}
 use Rattle.sizes.specs.Ladder.{Ladder, smallest, largest, bytes, addressFrame}
 use Rattle.model.specs.Ladder.{top}
 use Rattle.model.specs.Frames.{count}
-use Rattle.model.specs.Calls.{Region, seeded, Call, seed, acquire, release, report, Test, refuse, verdict}
+use Rattle.model.specs.Calls.{seeded, Call, seed, acquire, release, report, Test, refuse, verdict}
 use Rattle.model.specs.FrameStore.{Frames, memory, size, blocks, lowestFree, whole, bare}
 use Rattle.model.specs.TreeStore.{State as TreeState}
 use Rattle.pool.specs.Words.{word, pack, maxOf}
-use Rattle.pool.specs.Nodes.{Words, words, storeW, takeW}
-use Rattle.pool.specs.Room.{seedW}
+use Rattle.pool.specs.Nodes.{Words, words, storeW, takeW, seedW}
 use Rattle.pool.specs.View.{view}
 use Rattle.pool.specs.Regions.{newest}
 use Rattle.pages.specs.declared.State.{State}
@@ -39,13 +38,15 @@ pub record Reply : Type 0 where
   pub largest : ℕ
   pub used : ℕ
 
--- the replies of an acquire and of a report; without results, of a seed, a release and every refusal
+-- the reply of an acquire
 abbrev pub deal : (refusal : ℕ) → Store → (base probes : ℕ) → Reply
 deal n s b k = record { refusal = n; store = s; base = b; probes = k; seeded = 0; free = 0; largest = 0; used = 0 }
 
+-- the reply of a report
 abbrev pub tell : (refusal : ℕ) → Store → (seeded free largest used : ℕ) → Reply
 tell n s a f l u = record { refusal = n; store = s; base = 0; probes = 0; seeded = a; free = f; largest = l; used = u }
 
+-- a reply without results: of fresh, a seed, a release, and every refusal
 abbrev pub plain : (refusal : ℕ) → Store → Reply
 plain n s = deal n s 0 0
 
@@ -54,7 +55,7 @@ abbrev pub settle : ℕ → Store → Reply → Reply
 settle zero s r = r
 settle (suc n) s r = plain (suc n) s
 
--- the words in use, and a state with other words in use
+-- the pool with its used count, and the store with another
 abbrev pub wordsOf : Store → Words
 wordsOf s = words (s .pool) (s .state .used)
 
@@ -80,7 +81,7 @@ module _ (L : Ladder) (most limit : ℕ) where
   abbrev pub shown : Store → Frames
   shown s = record { free = isFree L (s .pool); regions = newest L (s .state .starts) (s .state .ends) }
 
-  -- the tree that the pool's words hold, with the regions
+  -- the tree that the pool's words hold, with the regions; no promise names it, the demands do
   abbrev pub treeOf : Store → TreeState L
   treeOf s = record { tree = view L (top L) (word (s .pool)) 0; regions = shown s .regions }
 

@@ -1,4 +1,4 @@
-// The page store: six calls on a state by value and a lent pool, each on any numbers and words. Its private modules hold all that touches pool words.
+// The page store: six calls on a state by value and a lent pool, each on any numbers and words. Its private modules hold the tests and what walks the pool.
 mod call;
 mod ladder;
 mod node;

@@ -4,8 +4,8 @@ use Rattle.sizes.specs.Ladder.{largest, fanOut}
 use Rattle.model.specs.Ladder.{fan, frames, top}
 use Rattle.model.specs.Lists.{maximum, all, first as firstOf}
 use Rattle.model.specs.TreeStore.{largestFit}
-use Rattle.pool.specs.Nodes.{mapRun, childrenMax, childrenAll, childrenFirst, openWith, openW, handW, refreshW, mergeW, storeW, takeW}
-use Rattle.pool.specs.Room.{path, openingsW, pickW, pathAfter, openingsAfterW, seedRestW, seedOpeningsW, seedW}
+use Rattle.pool.specs.Nodes.{mapRun, childrenMax, childrenAll, childrenFirst, openWith, openW, handW, refreshW, mergeW, storeW, takeW, seedW}
+use Rattle.pool.specs.Room.{path, openingsW, pickW, pathAfter, openingsAfterW, seedRestW, seedOpeningsW}
 use Rattle.pool.specs.Cases.{laid, Seed, First, Second, Merged, Room}
 
 pub seed : Seed

@@ -20,8 +20,8 @@ use Rattle.model.specs.Tree.{Sound as SoundTree}
 use Rattle.model.specs.Tree.{Tree, free, largest, pick, store}
 use Rattle.model.specs.Tree.{words as treeWords}
 use Rattle.model.specs.TreeStore.{largestFit, seedFrom}
-use Rattle.pool.specs.Nodes.{Words, openW, storeW, takeW, words}
-use Rattle.pool.specs.Room.{openingsW, pickW, seedOpeningsW, seedW}
+use Rattle.pool.specs.Nodes.{Words, openW, storeW, takeW, words, seedW}
+use Rattle.pool.specs.Room.{openingsW, pickW, seedOpeningsW}
 use Rattle.pool.specs.View.{view}
 use Rattle.pool.specs.Words.{fanOutOf, firstChild, maxOf, word}
 use Rattle.pool.specs.Asks.{Maxed}

@@ -18,8 +18,8 @@ use Rattle.model.specs.Laws.{BlockIn, Made}
 use Rattle.model.specs.Tree.{Tree, free, store}
 use Rattle.model.specs.Tree.{words as treeWords}
 use Rattle.model.specs.TreeStore.{largestFit, seedFrom}
-use Rattle.pool.specs.Nodes.{Words, storeW, words}
-use Rattle.pool.specs.Room.{openingsW, seedOpeningsW, seedW}
+use Rattle.pool.specs.Nodes.{Words, storeW, words, seedW}
+use Rattle.pool.specs.Room.{openingsW, seedOpeningsW}
 use Rattle.pool.specs.View.{view}
 use Rattle.pool.specs.Words.{word}
 use Rattle.pool.specs.Check.{SoundW}

@@ -21,8 +21,8 @@ use Rattle.model.specs.Tree.{Sound as SoundTree}
 use Rattle.model.specs.Tree.{Tree, empty, free, node, opening, openings, store}
 use Rattle.model.specs.Tree.{words as treeWords}
 use Rattle.model.specs.TreeStore.{largestFit, seedFrom}
-use Rattle.pool.specs.Nodes.{Words, storeW, words}
-use Rattle.pool.specs.Room.{openingsAfterW, openingsW, path, pathAfter, seedOpeningsW, seedRestW, seedW}
+use Rattle.pool.specs.Nodes.{Words, storeW, words, seedW}
+use Rattle.pool.specs.Room.{openingsAfterW, openingsW, path, pathAfter, seedOpeningsW, seedRestW}
 use Rattle.pool.specs.View.{block, tab, view}
 use Rattle.pool.specs.Words.{fanOutOf, hasToken, linkOf, word}
 use Rattle.pool.specs.Blocks.{Child, Readable}

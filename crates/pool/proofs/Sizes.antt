@@ -63,6 +63,10 @@ pub root-level : mostCode ≡ suc (top six)
 unfolding top largest-code
 root-level = refl
 
+-- a node's level has room for the six sizes
+pub small-six : suc (top six) < 8
+small-six = omega (arith, root-level)
+
 pub root-frames : framesOf six mostCode ≡ mostFrames
 unfolding frames fan fanOut
 root-frames = refl

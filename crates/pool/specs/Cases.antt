@@ -4,8 +4,8 @@ use mathlib.Core.List.{List, [], _∷_, _++_}
 use Prim.Native.Nat.{ℕ}
 use lib.ListN.{set, replicate}
 use Rattle.sizes.specs.Six.{six}
-use Rattle.pool.specs.Nodes.{Words, Taken, storeW, takeW, words}
-use Rattle.pool.specs.Room.{openingsW, pickW, seedOpeningsW, seedW}
+use Rattle.pool.specs.Nodes.{Words, Taken, storeW, takeW, words, seedW}
+use Rattle.pool.specs.Room.{openingsW, pickW, seedOpeningsW}
 
 -- so many words of one value
 pub data Run : Type 0 where

@@ -1,13 +1,14 @@
--- What opening, handing on, merging, storing and taking write, word by word (document 01, 'What the calls do'). A node with d sizes below its own has the level suc d.
--- A name of the model with a W behind it is the model's on words. All run quickly: a run of words is one list.
+-- What opening, handing on, merging, storing, taking and seeding write, word by word (document 01, 'What the calls do'). A node with d sizes below its own has the level suc d.
+-- A name of the model with a W behind it is the model's on words. Words are rewritten a list at a time, so that cases compute.
 use mathlib.Core.Bool.{Bool, true, false}
 use mathlib.Core.List.{List, [], _∷_}
 use Prim.Native.Nat.{ℕ, zero, suc, _+_, _*_, _/_, _%_}
 use lib.Dec.{leb, ltb}
 use lib.ListN.{set}
 use Rattle.sizes.specs.Ladder.{Ladder}
-use Rattle.model.specs.Ladder.{fan, frames}
+use Rattle.model.specs.Ladder.{fan, frames, top}
 use Rattle.model.specs.Lists.{maximum, all, first}
+use Rattle.model.specs.TreeStore.{largestFit}
 use Rattle.pool.specs.Words.{word, maxOf, linkOf, hasToken, firstChild, run}
 
 -- a pool and how many of its words are used
@@ -105,4 +106,12 @@ module _ (L : Ladder) where
         let i = childrenFirst (suc d') p (firstChild p q) (fan L (suc d)) in
         let r = takeW d d' (record { pool = p; used = o .used }) (firstChild p q + i) in
         record { words = record { pool = refreshW d (r .words .pool) q; used = r .words .used }; base = i * frames L d + r .base; probes = r .probes + i + 1 }
+  ]
+
+  -- the stores of a seed of the frames from a to e, in k blocks at most
+  unfoldable pub seedW : (k : ℕ) → Words → (a e : ℕ) → Words
+  seedW zero s a e = s
+  seedW (suc k) s a e = elim (ltb a e) [
+    | false ↦ s
+    | true ↦ let c = largestFit L (top L) a e in seedW k (storeW (top L) c s 0 a) (a + frames L c) e
   ]

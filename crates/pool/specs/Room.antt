@@ -8,7 +8,7 @@ use Rattle.model.specs.Ladder.{fan, frames, top}
 use Rattle.model.specs.Lists.{sum}
 use Rattle.model.specs.TreeStore.{largestFit}
 use Rattle.pool.specs.Words.{word, maxOf, tokenOf, linkOf, hasToken, firstChild, run}
-use Rattle.pool.specs.Nodes.{Words, childrenFirst, storeW}
+use Rattle.pool.specs.Nodes.{childrenFirst}
 
 -- how many of the n nodes from a on have tokens
 unfoldable pub tokensIn : List ℕ → (a n : ℕ) → ℕ
@@ -75,12 +75,4 @@ module _ (L : Ladder) where
   seedOpeningsW (suc k) p a e = elim (ltb a e) [
     | false ↦ 0
     | true ↦ let c = largestFit L (top L) a e in openingsW (top L) c p 0 a + seedRestW k p (a + frames L c) e
-  ]
-
-  -- the stores of a seed of the frames from a to e, in k blocks at most
-  unfoldable pub seedW : (k : ℕ) → Words → (a e : ℕ) → Words
-  seedW zero s a e = s
-  seedW (suc k) s a e = elim (ltb a e) [
-    | false ↦ s
-    | true ↦ let c = largestFit L (top L) a e in seedW k (storeW L (top L) c s 0 a) (a + frames L c) e
   ]

@@ -1,6 +1,7 @@
 -- Proof of `acquire_page`: a refusal hands back what came, and otherwise the first block is taken. Assumes nothing.
 use borrow.Author.Needs.{needs}
-use Rattle.pages.proofs.AskCall.{refused-reply, acquire-take, acquire-reply}
+use Rattle.pages.proofs.AskSeed.{refused-is}
+use Rattle.pages.proofs.AskCall.{acquire-take, acquire-reply}
 use mathlib.Core.Path.{sym, _∙_}
 use lib.ListN.{length-map}
 use Rattle.sizes.specs.Six.{six}
@@ -30,7 +31,7 @@ same-length c = search needs
 returns : tie.Need-returns
 returns c =
     let s = c .before .before .before .before in
-    refused-reply (asked s) (acquire (s .args .number)) (c .before .acquire-refusal .result) (c .before .acquire-refusal .ensures) (c .if1 .taken)
+    refused-is six places poolLimit (asked s) (acquire (s .args .number)) (c .before .acquire-refusal .result) (c .before .acquire-refusal .ensures) (c .if1 .taken)
 
 largest-requires : tie.Need-largest-requires
 largest-requires c κs = search needs

@@ -1,6 +1,7 @@
 -- Proof of `release_page`: a refusal hands back what came, and otherwise the block is stored. Assumes nothing.
 use borrow.Author.Needs.{needs}
-use Rattle.pages.proofs.AskCall.{refused-reply, release-store, release-reply}
+use Rattle.pages.proofs.AskSeed.{refused-is}
+use Rattle.pages.proofs.AskCall.{release-store, release-reply}
 use mathlib.Core.Path.{sym, _∙_}
 use lib.ListN.{length-map}
 use Rattle.sizes.specs.Six.{six}
@@ -30,7 +31,7 @@ same-length c = search needs
 returns : tie.Need-returns
 returns c =
     let s = c .before .before .before .before in
-    refused-reply (asked s) (release (s .args .base .0) (s .args .number)) (c .before .release-refusal .result) (c .before .release-refusal .ensures) (c .if1 .taken)
+    refused-is six places poolLimit (asked s) (release (s .args .base .0) (s .args .number)) (c .before .release-refusal .result) (c .before .release-refusal .ensures) (c .if1 .taken)
 
 largest-requires : tie.Need-largest-requires
 largest-requires c κs = search needs

@@ -15,7 +15,8 @@ use Rattle.model.specs.TreeStore.{apart}
 use Rattle.pool.specs.Limits.{places, poolLimit, mostFrames}
 use Rattle.pool.specs.Regions.{regionsOf}
 use Rattle.pages.specs.Calls.{Store, store, Places}
-use Rattle.pages.proofs.AskSeed.{small-six, in-frames, apart-read, room-read, seed-ask}
+use Rattle.pool.proofs.Sizes.{small-six}
+use Rattle.pages.proofs.AskSeed.{in-frames, apart-read, room-read, seed-ask}
 use Rattle.pages.proofs.Refusals.{Spans, seed-2, seed-3, seed-5, seed-4, seed-9, seed-0}
 use Rattle.pages.proofs.call.seed_refusal.Statement.{statement}
 use Rattle.pages.proofs.call.seed_refusal.Tie as tie

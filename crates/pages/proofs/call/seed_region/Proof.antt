@@ -7,7 +7,8 @@ use Rattle.sizes.proofs.Six.{six-multiplies}
 use Rattle.model.specs.Calls.{seed}
 use Rattle.pool.specs.Limits.{places, poolLimit}
 use Rattle.pages.specs.Calls.{Store, store, refusalOf, Places}
-use Rattle.pages.proofs.AskSeed.{small-six, Accepted, accepted, refused-is, seeded-is, span-ask}
+use Rattle.pool.proofs.Sizes.{small-six}
+use Rattle.pages.proofs.AskSeed.{Accepted, accepted, refused-is, seeded-is, span-ask}
 use Rattle.pages.proofs.call.seed_region.Statement.{statement}
 use Rattle.pages.proofs.call.seed_region.Tie as tie
 

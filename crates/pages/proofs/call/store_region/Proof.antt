@@ -4,8 +4,7 @@ use Prim.Native.Nat.{ℕ, _-_}
 use native.Mathlib.Omega.{arith}
 use lib.ListN.{length}
 use Rattle.sizes.specs.Six.{six}
-use Rattle.pool.specs.Nodes.{Words, words}
-use Rattle.pool.specs.Room.{seedW}
+use Rattle.pool.specs.Nodes.{Words, words, seedW}
 use Rattle.pool.specs.Asks.{SpanAsk}
 use Rattle.pool.proofs.SeedSteps.{seedW-end}
 use Rattle.pages.proofs.AskSeed.{store-ask, span-turn}
