@@ -25,13 +25,14 @@ abbrev pub first : (n k : ℕ) (P Rest : Type 0) → Type 0
 first n k P Rest = (P × (n ≡ k)) ⊎ ((P → ⊥) × Rest)
 
 module _ (L : Ladder) (most limit : ℕ) where
-  -- a call and its answer in frames, as the model has them
+  -- a call in frames, as the model has it
   abbrev pub inFrames : Call → Call
   inFrames (seed a e) = seed (addressFrame L a) (addressFrame L e)
   inFrames (acquire c) = acquire c
   inFrames (release b c) = release (addressFrame L b) c
   inFrames report = report
 
+  -- what an accepted call answers, and any, in frames
   abbrev pub resultOf : Call → Reply → Answer
   resultOf (seed a e) r = stored
   resultOf (acquire c) r = dealt (addressFrame L (r .base)) (r .probes)
@@ -56,12 +57,15 @@ module _ (L : Ladder) (most limit : ℕ) where
   abbrev pub Some : (ℕ → Bool) → (start end : ℕ) → Bool → Type 0
   Some g a e v = (f : ℕ) × Holds L a e f × (g f ≡ v)
 
+  -- c is no code
   abbrev pub NoCode : ℕ → Type 0
   NoCode c = (c ≡ 0) ⊎ (largest L < c)
 
+  -- a is no multiple of a page
   abbrev pub NoPage : ℕ → Type 0
   NoPage a = a % bytes L smallest ≢ 0
 
+  -- n is the refusal number of the call, 0 for none
   abbrev pub Number : Store → Call → ℕ → Type 0
   Number s (seed a e) n =
       first n 10 (SoundStore L most limit s → ⊥) (first n 2 (NoPage a ⊎ (NoPage e ⊎ (e ≤ a))) (first n 3 (bytes L (largest L) < e) (first n 5 (most ≤ length (shown L most limit s .regions))
