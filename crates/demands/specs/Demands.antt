@@ -32,13 +32,14 @@ module _ (L : Ladder) (most limit : ℕ) where
   inFrames (release b c) = release (addressFrame L b) c
   inFrames report = report
 
-  -- what an accepted call answers, and any, in frames
+  -- what an accepted call answers, in frames
   abbrev pub resultOf : Call → Reply → Answer
   resultOf (seed a e) r = stored
   resultOf (acquire c) r = dealt (addressFrame L (r .base)) (r .probes)
   resultOf (release b c) r = stored
   resultOf report r = reported (addressFrame L (r .seeded)) (addressFrame L (r .free)) (r .largest)
 
+  -- what any call answers, in frames
   abbrev pub answerOf : Call → Reply → Answer
   answerOf c r = elim (r .refusal) [ zero ↦ resultOf c r | suc n ↦ refused (suc n) ]
 
@@ -46,7 +47,7 @@ module _ (L : Ladder) (most limit : ℕ) where
   abbrev pub Overfull : Store → Call → Type 0
   Overfull s c = length (s .pool) < used L (act L (treeOf L most limit s) (inFrames c) .state .tree)
 
-  -- ---- DEMAND 1: document 01's conditions, in its order
+  -- ---- document 01's conditions, in its order
   -- b is the first frame of a wholly free block of the code
   pub record FreeBlock (s : Store) (c b : ℕ) : Type 0 where
     pub aligned : b % size L c ≡ 0
@@ -76,6 +77,7 @@ module _ (L : Ladder) (most limit : ℕ) where
       (first n 6 (Some (seeded (shown L most limit s .regions)) b (b + bytes L c) false) (first n 7 (Some (isFree L (s .pool)) b (b + bytes L c) true) (first n 9 (Overfull s (release b c)) (n ≡ 0)))))))
   Number s report n = first n 10 (SoundStore L most limit s → ⊥) (n ≡ 0)
 
+  -- DEMAND 1
   pub record Demand1 : Type 0 where
     -- each refusal exactly when document 01 says, the first in order winning
     pub number : (s : Store) → Places L most limit s → (c : Call) (r : Reply) → Replies L most limit s c r → Number s c (r .refusal)
@@ -85,7 +87,7 @@ module _ (L : Ladder) (most limit : ℕ) where
     -- a refusal hands back the state it got, changes no pool word, and answers zeros
     pub unchanged : (s : Store) (c : Call) (r : Reply) → Replies L most limit s c r → r .refusal ≢ 0 → r ≡ plain (r .refusal) s
 
-  -- ---- DEMAND 2
+  -- ---- the frame store, and runs
   -- an address that is no multiple of a page, which no frame number can say; of a release only where its number is a code
   abbrev pub unaligned : Call → Bool
   unaligned (seed a e) = not (eqb (a % bytes L smallest) 0 && eqb (e % bytes L smallest) 0)
@@ -124,6 +126,7 @@ module _ (L : Ladder) (most limit : ℕ) where
   saids (c ∷ cs) [] = []
   saids (c ∷ cs) (r ∷ rs) = record { call = inFrames c; answer = answerOf c r } ∷ saids cs rs
 
+  -- DEMAND 2: every answer on a sound store is the frame store's; an acquire takes the lowest block
   pub record Demand2 : Type 0 where
     pub frames : (s : Store) → Places L most limit s → SoundStore L most limit s → (c : Call) (r : Reply) → Replies L most limit s c r → AsFrames s c r
     pub lowest : (s : Store) → Places L most limit s → SoundStore L most limit s → (c : ℕ) (r : Reply) → Replies L most limit s (acquire c) r → Lowest-first s c r
@@ -131,7 +134,7 @@ module _ (L : Ladder) (most limit : ℕ) where
     pub original : (p : List ℕ) → freshReply L most limit p .refusal ≡ 0 → (cs : List Call) (rs : List Reply) (s : Store) → Runs (freshReply L most limit p .store) cs rs s
         → originals L (saids cs rs) (emptyAllocator (suc (top L))) ≡ gives (tellings L (saids cs rs))
 
-  -- ---- DEMAND 3
+  -- ---- what a run holds, and keeps
   -- the held frames after a run, reckoned from the accepted calls alone
   abbrev pub held : List Call → List Reply → (ℕ → Bool) → ℕ → Bool
   held [] rs h = h
@@ -171,5 +174,6 @@ module _ (L : Ladder) (most limit : ℕ) where
     pub settled : ((f : ℕ) → h f ≡ false) → (t : Store) → Newly s (length gs) t → (c : ℕ) (r r' : Reply)
         → Replies L most limit s (acquire c) r → Replies L most limit t (acquire c) r' → r .refusal ≢ 9 → r' .refusal ≢ 9 → (r .refusal ≡ r' .refusal) × (r .base ≡ r' .base)
 
+  -- DEMAND 3: so it is after any calls from fresh, on any pool, refusals included
   abbrev pub Demand3 : Type 0
   Demand3 = (p : List ℕ) → freshReply L most limit p .refusal ≡ 0 → (cs : List Call) (rs : List Reply) (s : Store) → Runs (freshReply L most limit p .store) cs rs s → Kept s (sown cs rs []) (held cs rs (λ f. false))

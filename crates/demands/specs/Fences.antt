@@ -16,6 +16,7 @@ use Rattle.demands.specs.Demands.{Runs}
 pub data Line : Type 0 where
   line : (refusal base probes used : ℕ) → Line
 
+-- a reply's line
 abbrev pub lineOf : Reply → Line
 lineOf r = line (r .refusal) (r .base) (r .probes) (r .store .state .used)
 
@@ -23,27 +24,31 @@ lineOf r = line (r .refusal) (r .base) (r .probes) (r .store .state .used)
 abbrev pub Leaves : (n : ℕ) → List Call → List Line → (Left : Store → Type 0) → Type 0
 Leaves n cs ls Left = (rs : List Reply) (s : Store) → Runs six places poolLimit (freshReply six places poolLimit (replicate n 0) .store) cs rs s → (map lineOf rs ≡ ls) × Left s
 
+-- ... whatever store they leave
 abbrev pub Says : (n : ℕ) → List Call → List Line → Type 0
 Says n cs ls = Leaves n cs ls (λ s. Unit {0})
 
--- an acquire of each code, and its refusals with 8
+-- an acquire of each code
 abbrev pub codes : List Call
 codes = acquire 1 ∷ acquire 2 ∷ acquire 3 ∷ acquire 4 ∷ acquire 5 ∷ acquire 6 ∷ []
 
+-- its six refusals with 8
 abbrev pub out : (used : ℕ) → List Line
 out u = replicate 6 (line 8 0 0 u)
 
--- 16 KiB at 2^31, and its frame i
+-- the seed of 16 KiB at 2^31
 abbrev pub page16 : Call
 page16 = seed (2 ^ 31) (2 ^ 31 + 16384)
 
+-- the release of its frame i
 abbrev pub back : ℕ → Call
 back i = release (2 ^ 31 + 4096 * i) 1
 
--- the one-frame region at frame 2 * i
+-- the seed of the frame 2 * i alone
 abbrev pub lone : ℕ → Call
 lone i = seed (8192 * i) (8192 * i + 4096)
 
+-- document 01's list, by its numbers
 pub record Fences : Type 0 where
   pub P1 : frames six (largest six) ≡ 2 ^ 35
   pub P2 : Says 16384 codes (out 1)

@@ -24,6 +24,7 @@ pub record Store : Type 0 where
   pub state : State
   pub pool : List ℕ
 
+-- ... as one
 abbrev pub store : State → List ℕ → Store
 store s p = record { state = s; pool = p }
 
@@ -55,10 +56,11 @@ abbrev pub settle : ℕ → Store → Reply → Reply
 settle zero s r = r
 settle (suc n) s r = plain (suc n) s
 
--- the pool with its used count, and the store with another
+-- the pool with its used count
 abbrev pub wordsOf : Store → Words
 wordsOf s = words (s .pool) (s .state .used)
 
+-- the store with another pool and used count
 abbrev pub leave : Store → Words → Store
 leave s w = record { state = record { used = w .used; starts = s .state .starts; ends = s .state .ends }; pool = w .pool }
 
@@ -111,10 +113,11 @@ module _ (L : Ladder) (most limit : ℕ) where
   unfoldable pub lacksRoom : Store → Call → Bool
   lacksRoom s c = ltb (length (s .pool)) (acted s c .store .state .used)
 
-  -- the refusal number of a call on a sound store, 0 for none, and its reply
+  -- the refusal number of a call on a sound store, 0 for none
   unfoldable pub refusalOf : Store → Call → ℕ
   refusalOf s c = verdict (refusals (shown s) c ++ (refuse 9 (lacksRoom s c) ∷ []))
 
+  -- its reply
   unfoldable pub served : Store → Call → Reply
   served s c = settle (refusalOf s c) s (acted s c)
 

@@ -29,6 +29,7 @@ module _ (L : Ladder) (p : List ℕ) where
 
 -- lies q k: a block may lie at the place k, seen from its parent at q
 module _ (L : Ladder) (lies : ℕ → ℕ → Bool) (most limit : ℕ) where
+  -- state and pool are sound
   pub record Sound (used : ℕ) (starts ends : List ℕ) (p : List ℕ) : Type 0 where
     -- used is at least 1 and at most the pool's length, which is within its limit
     pub low : 1 ≤ used

@@ -31,13 +31,15 @@ mapRun f (x ∷ p) (suc a) n = x ∷ mapRun f p a n
 mapRun f (x ∷ p) zero zero = x ∷ p
 mapRun f (x ∷ p) zero (suc n) = f x ∷ mapRun f p zero n
 
--- of n nodes from a on: their largest max, whether all have tokens, and the number of the first whose max is at least the code c
+-- the largest max of n nodes from a on
 unfoldable pub childrenMax : List ℕ → (a n : ℕ) → ℕ
 childrenMax p a n = maximum maxOf (run p a n)
 
+-- whether all of them have tokens
 unfoldable pub childrenAll : List ℕ → (a n : ℕ) → Bool
 childrenAll p a n = all hasToken (run p a n)
 
+-- the number of the first whose max is at least the code c
 unfoldable pub childrenFirst : (c : ℕ) → List ℕ → (a n : ℕ) → ℕ
 childrenFirst c p a n = first (λ v. leb c (maxOf v)) (run p a n)
 
@@ -56,6 +58,7 @@ module _ (L : Ladder) where
   unfoldable pub openWith : List ℕ → (u d q : ℕ) → List ℕ
   openWith p u d q = set (mapRun (λ _. 16 * suc d) (set p u q) (suc u) (fan L (suc d))) q (word p q + 128 * u)
 
+  -- by the node's link
   abbrev pub openIf : (d : ℕ) → Words → (q link : ℕ) → Words
   openIf d s q zero = record { pool = openWith (s .pool) (s .used) d q; used = s .used + suc (fan L (suc d)) }
   openIf d s q (suc l) = s

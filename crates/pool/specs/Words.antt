@@ -31,6 +31,7 @@ levelOf v = v / 16 % 8
 abbrev pub linkOf : ℕ → ℕ
 linkOf v = v / 128
 
+-- the node is offered whole
 abbrev pub hasToken : ℕ → Bool
 hasToken v = eqb (tokenOf v) 1
 
@@ -48,11 +49,12 @@ sumOver a zero f = 0
 sumOver a (suc n) f = f a + sumOver (suc a) n f
 
 module _ (L : Ladder) where
-  -- how many children a node of a level has, and how many frames. A node of level 1 has none in a sound pool; its number here is that of `model/specs/Ladder`
+  -- how many children a node of a level has. A node of level 1 has none in a sound pool; its number here is that of `model/specs/Ladder`
   abbrev pub fanOutOf : ℕ → ℕ
   fanOutOf zero = 0
   fanOutOf (suc d) = fan L d
 
+  -- how many frames a node of a level has
   abbrev pub framesOf : ℕ → ℕ
   framesOf zero = 0
   framesOf (suc d) = frames L d
