@@ -2,7 +2,7 @@
 //! answers the same: what a store says of each entry decides what the generator believes to be held.
 
 use crate::journal::Entry;
-use crate::store::{Answer, Calls, JOURNAL_POOL};
+use crate::store::{Answer, Calls, JOURNAL_POOL, State};
 use dice::Dice;
 use ledger::{Ledger, Page};
 use std::collections::VecDeque;
@@ -188,8 +188,9 @@ impl Generator {
     }
 }
 
-/// Runs a store on the journal of a profile and a number, and gives the pool's length and the entries.
-pub fn record(profile: Profile, number: u64, length: usize, calls: Calls) -> (usize, Vec<Entry>) {
+/// Runs a store on the journal of a profile and a number, and gives the pool's length, the entries, and the state they
+/// leave.
+pub fn record(profile: Profile, number: u64, length: usize, calls: Calls) -> (usize, Vec<Entry>, State) {
     let mut generator = Generator::new(profile, number);
     let mut pool = vec![0; generator.pool_words()];
     let mut state = (calls.fresh)(&mut pool).state;
@@ -201,5 +202,5 @@ pub fn record(profile: Profile, number: u64, length: usize, calls: Calls) -> (us
         state = answer.state;
         entries.push(entry);
     }
-    (pool.len(), entries)
+    (pool.len(), entries, state)
 }

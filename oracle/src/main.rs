@@ -91,7 +91,7 @@ fn profile(name: &str) -> Result<Profile, String> {
 
 fn write_journal(name: &str, journal: &str, length: &str) -> Result<(), String> {
     let length = usize::try_from(number(length)?).map_err(|_| format!("{length} entries are too many"))?;
-    let (pool_words, entries) = record(profile(name)?, number(journal)?, length, reference::CALLS);
+    let (pool_words, entries, _) = record(profile(name)?, number(journal)?, length, reference::CALLS);
     eprintln!("recorded on a pool of {pool_words} words");
     print(&encode(&entries))
 }

@@ -108,7 +108,7 @@ fn traces() -> Vec<Trace> {
     let most = Profile::ALL.iter().map(|&profile| journals(profile)).max().unwrap_or(0);
     for number in 0..most {
         for &profile in Profile::ALL.iter().filter(|&&profile| number < journals(profile)) {
-            let (pool_words, entries) = record(profile, number, ENTRIES, CALLS);
+            let (pool_words, entries, _) = record(profile, number, ENTRIES, CALLS);
             let mut pool = vec![GARBAGE; pool_words];
             let mut state = (CALLS.fresh)(&mut pool).state;
             let mut steps = Vec::new();

@@ -4,7 +4,7 @@ use super::Ask;
 use super::writer::Writer;
 use crate::frames::SIZES;
 use crate::generate::dice::Dice;
-use crate::generate::{Generator, Profile};
+use crate::generate::{Profile, record};
 use crate::journal::Entry;
 use crate::reference::CALLS;
 use crate::store::{Call, POOL_LIMIT};
@@ -66,24 +66,14 @@ fn mass_of(profile: Profile) -> Vec<Journal> {
 /// A journal of the generator; by its number on the generator's pool, on one that it fills to the last word, or on a
 /// shorter one.
 fn journal(profile: Profile, number: u64, length: usize) -> Journal {
-    let mut generator = Generator::new(profile, number);
-    let mut pool = vec![0; generator.pool_words()];
-    let mut state = (CALLS.fresh)(&mut pool).state;
-    let mut entries = Vec::new();
-    for _ in 0..length {
-        let entry = generator.next();
-        let answer = CALLS.answer(state, &mut pool, entry);
-        generator.answered(entry, &answer);
-        state = answer.state;
-        entries.push(entry);
-    }
+    let (roomy, entries, state) = record(profile, number, length, CALLS);
     let mut dice = Dice::new(number, 600 + profile as u64);
     let used = state.used;
     let pool_words = match number % 4 {
         1 => used as usize,
         2 => used.saturating_sub(1).max(1) as usize,
         3 => dice.between(used / 2 + 1, used) as usize,
-        _ => pool.len(),
+        _ => roomy,
     };
     let any = dice.roll();
     let words = match dice.below(4) {

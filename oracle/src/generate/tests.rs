@@ -207,7 +207,7 @@ fn shadow_calls() -> Calls {
 fn a_recorded_journal_is_the_journal() {
     for &profile in Profile::ALL {
         for number in 0..5 {
-            let (words, entries) = record(profile, number, 200, shadow_calls());
+            let (words, entries, _) = record(profile, number, 200, shadow_calls());
             assert_eq!(words, Generator::new(profile, number).pool_words());
             assert_eq!(entries, journal(profile, number, 200, true, &mut Tally::default()));
         }
