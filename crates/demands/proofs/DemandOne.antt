@@ -125,7 +125,7 @@ module _ (L : Ladder) (most limit : ℕ) where
       go (suc n) e = rw (e, served) refl
 
   -- A REFUSAL CHANGES NOTHING
-  refused-unchanged : (s : Store) (c : Call) (r : Reply) → Replies L most limit s c r → r .refusal ≢ 0 → r ≡ plain (r .refusal) s
+  pub refused-unchanged : (s : Store) (c : Call) (r : Reply) → Replies L most limit s c r → r .refusal ≢ 0 → r ≡ plain (r .refusal) s
   refused-unchanged s c r q k = go (plain-dec r s)
     where
       go : Dec (r ≡ plain (r .refusal) s) → r ≡ plain (r .refusal) s

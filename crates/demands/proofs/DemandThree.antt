@@ -15,7 +15,7 @@ use Rattle.sizes.specs.Ladder.{Ladder, smallest, bytes, addressFrame}
 use Rattle.sizes.specs.Laws.{MultipliesUp}
 use Rattle.model.specs.Ladder.{top}
 use Rattle.model.specs.Frames.{bit, count}
-use Rattle.model.specs.Calls.{Region, seeded, Fits, Regions, Call, seed, acquire, release, report, Answer, refused, stored, dealt, verdict}
+use Rattle.model.specs.Calls.{Region, seeded, Fits, Regions, Call, seed, acquire, report, Answer, refused, stored, dealt, verdict}
 use Rattle.model.specs.FrameStore.{Frames, memory, size, Same, frameAct, frameStep, refusals as frameRefusals}
 use Rattle.model.specs.Tree.{empty}
 use Rattle.model.specs.TreeStore.{State as TreeState, fresh as freshTree, step}
@@ -33,10 +33,11 @@ use Rattle.pool.specs.Regions.{regionsOf}
 use Rattle.pool.proofs.Regions.{frame-bytes}
 use Rattle.pool.proofs.With.{newest-length, count-is}
 use Rattle.pages.specs.Frames.{isFree}
-use Rattle.pages.specs.Calls.{Store, Reply, plain, settle, SoundStore, shown, refusals, acted, lacksRoom, refusalOf, served, Replies, freshReply, Places, treeOf}
+use Rattle.pages.specs.Calls.{Store, Reply, plain, SoundStore, shown, refusals, acted, lacksRoom, refusalOf, served, Replies, freshReply, Places, treeOf}
 use Rattle.demands.specs.Demands.{inFrames, answerOf, unaligned, asked, Runs, none, more, held, sown, region, Newly, fresh, next, Kept, Demand3}
 use Rattle.pages.proofs.Shown.{sound-state, shown-same}
 use Rattle.demands.proofs.Serves.{served-steps, served-leaves, served-regions}
+use Rattle.demands.proofs.DemandOne.{refused-unchanged}
 use Rattle.demands.proofs.DemandTwo.{answer-refused, replies-frames, replies-lowest}
 use Rattle.demands.proofs.Rooted.{fresh-fits, rooted, fresh-is, rooted-places, rooted-tree, rooted-sound}
 
@@ -74,23 +75,6 @@ region-at L z (s ∷ ss) (e ∷ es) n l = go (eqb e 0) n (region-at L z ss es) l
     go false (suc n) ih l = ih n (omega arith)
 
 module _ (L : Ladder) (most limit : ℕ) where
-  -- an accepted call has the number 0
-  acted-none : (s : Store) (c : Call) → acted L most limit s c .refusal ≡ 0
-  unfolding acted
-  acted-none s (seed a e) = refl
-  acted-none s (acquire c) = refl
-  acted-none s (release b c) = refl
-  acted-none s report = refl
-
-  -- a refusal hands back the store
-  served-refused : (s : Store) (c : Call) (k : ℕ) → served L most limit s c .refusal ≡ suc k → served L most limit s c ≡ plain (suc k) s
-  unfolding served
-  served-refused s c k e = go (refusalOf L most limit s c) e
-    where
-      go : (n : ℕ) → settle n s (acted L most limit s c) .refusal ≡ suc k → settle n s (acted L most limit s c) ≡ plain (suc k) s
-      go zero q = absurd (omega (arith, q, acted-none s c))
-      go (suc n) q = ap (λ (i : ℕ). plain i s) q
-
   -- a report is never refused
   report-is : (s : Store) → SoundStore L most limit s → served L most limit s report ≡ acted L most limit s report
   unfolding served refusalOf refusals lacksRoom acted
@@ -128,8 +112,7 @@ module _ (L : Ladder) (most limit : ℕ) (m : MultipliesUp L) (small : suc (top 
         where
           go : Dec (r .refusal ≡ 9) → Split L (shown L most limit (r .store)) (reckon L (inFrames L most limit c) (answerOf L most limit c r) h)
           go (yes e) =
-              let x = q .sound (k .sound) in
-              let y : r ≡ plain 9 s = x ∙ served-refused L most limit s c 8 (ap (λ (z : Reply). z .refusal) (sym x) ∙ e) in
+              let y : r ≡ plain 9 s = refused-unchanged L most limit s c r q (λ z. omega (arith, z, e)) ∙ ap (λ (i : ℕ). plain i s) e in
               rw (y, reckon-refused L most (inFrames L most limit c) 9 h) (k .split)
           go (no e) =
               let f = replies-frames L most limit m small s (k .places) (k .sound) c r q in
@@ -211,7 +194,7 @@ module _ (L : Ladder) (most limit : ℕ) (m : MultipliesUp L) (small : suc (top 
 
   -- a refusal has no base
   refused-base : (s : Store) (h : ℕ → Bool) → Keeps L most limit s h → (c : Call) (r : Reply) → Replies L most limit s c r → (k : ℕ) → r .refusal ≡ suc k → r .base ≡ 0
-  refused-base s h w c r q k e = let x = q .sound (w .sound) in ap (λ (z : Reply). z .base) (x ∙ served-refused L most limit s c k (ap (λ (z : Reply). z .refusal) (sym x) ∙ e))
+  refused-base s h w c r q k e = ap (λ (z : Reply). z .base) (refused-unchanged L most limit s c r q (λ z. omega (arith, z, e)))
 
   -- acquires of the same answer have the same number and base
   same-base : (s t : Store) (h i : ℕ → Bool) → Keeps L most limit s h → Keeps L most limit t i → (c : ℕ) (r r' : Reply) → Replies L most limit s (acquire c) r → Replies L most limit t (acquire c) r'
