@@ -2,7 +2,8 @@
 
 use crate::generate::{Generator, Profile};
 use crate::journal::Entry;
-use crate::store::Calls;
+use crate::store::{Calls, JOURNAL_POOL};
+use std::fmt;
 
 mod bench;
 mod closing;
@@ -13,8 +14,10 @@ mod words;
 
 pub use bench::Bench;
 pub use difference::{Difference, wording};
-pub use printed::{compare_printed, compare_readings, lines};
-pub use sweep::{Found, Tally, plan, sweep, table};
+pub use printed::{
+    RANDOM_JOURNALS, compare_printed, compare_readings, cut_journals, first_differing, lines, random_journals,
+};
+pub use sweep::{Found, Tally, plan, sweep, table, tally};
 
 /// How many refusal numbers a count of them has room for, 0 for the accepted calls included.
 pub const REFUSALS: usize = 12;
@@ -25,6 +28,12 @@ pub struct Job {
     pub profile: Profile,
     pub number: u64,
     pub length: usize,
+}
+
+impl fmt::Display for Job {
+    fn fmt(&self, formatter: &mut fmt::Formatter) -> fmt::Result {
+        write!(formatter, "{} {} of {} entries", self.profile.name(), self.number, self.length)
+    }
 }
 
 /// What a journal without a difference comes to.
@@ -40,6 +49,18 @@ pub struct Run {
     pub used: u64,
     /// Whether everything is given back in the end, so that the store is compared with a newly seeded one.
     pub emptied: bool,
+    /// Whether the journal is run again on pools that are just full.
+    pub tight: bool,
+}
+
+/// A journal on which all judges agree: its entries with those that give everything back, the lines that the program
+/// prints for them, and the original's lines.
+#[derive(Clone, Debug)]
+pub struct Agreed {
+    pub run: Run,
+    pub entries: Vec<Entry>,
+    pub lines: String,
+    pub original: String,
 }
 
 /// A difference, the entries up to it with those that give everything back, and the pool's length.
@@ -81,7 +102,18 @@ pub fn compare_tightly(candidate: Option<Calls>, job: Job) -> Result<Run, Differ
     if filled > 1 {
         compare_listed(candidate, &entries, filled - 1)?;
     }
-    Ok(run)
+    Ok(Run { tight: true, ..run })
+}
+
+/// Compares all judges on a generated journal with the journal program's pool, whatever the profile, and gives what a
+/// program is judged by.
+pub fn agree(job: Job) -> Result<Agreed, Differing> {
+    let mut generator = Generator::on_pool(job.profile, job.number, JOURNAL_POOL);
+    drive(None, JOURNAL_POOL, |bench| {
+        let run = generated(bench, &mut generator, job.length)?;
+        let Bench { entries, lines, told, .. } = bench;
+        Ok(Agreed { run, entries: entries.clone(), lines: lines.clone(), original: told.clone() })
+    })
 }
 
 /// Runs so many generated entries on a bench.
@@ -95,11 +127,11 @@ fn generated(bench: &mut Bench, generator: &mut Generator, length: usize) -> Res
 }
 
 /// Sets up a bench, runs a journal on it, and hands a difference on with the entries up to it.
-fn drive(
+fn drive<Outcome>(
     candidate: Option<Calls>,
     pool_words: usize,
-    journal: impl FnOnce(&mut Bench) -> Result<Run, Difference>,
-) -> Result<Run, Differing> {
+    journal: impl FnOnce(&mut Bench) -> Result<Outcome, Difference>,
+) -> Result<Outcome, Differing> {
     let mut bench = Bench::new(candidate, pool_words).map_err(|difference| (difference, Vec::new(), pool_words))?;
     journal(&mut bench).map_err(|difference| (difference, bench.entries().to_vec(), pool_words))
 }

@@ -33,7 +33,7 @@ pub enum Profile {
     Limits,
     /// Half the entries are refused on purpose, each of 1 to 8 chosen alike, amid valid traffic.
     Refusals,
-    /// Pools of 1 to 4,000 words, and scattered regions whose openings need room.
+    /// Pools of 1 to 4,000 words, and scattered regions whose openings need room; on a longer pool, wide regions.
     DryPools,
     /// Releases of a part of an acquired page, and of several pages joined.
     PartsAndJoins,
@@ -123,7 +123,21 @@ pub struct Generator {
 impl Generator {
     /// The journal of a profile and a number.
     pub fn new(profile: Profile, number: u64) -> Generator {
-        let mut generator = Generator {
+        let mut generator = Generator::unprepared(profile, number);
+        generator.choose_pool();
+        generator.prepare();
+        generator
+    }
+
+    /// The same on a pool of a given length in place of the profile's own.
+    pub fn on_pool(profile: Profile, number: u64, pool_words: usize) -> Generator {
+        let mut generator = Generator { pool_words, ..Generator::unprepared(profile, number) };
+        generator.prepare();
+        generator
+    }
+
+    fn unprepared(profile: Profile, number: u64) -> Generator {
+        Generator {
             profile,
             number,
             dice: Dice::new(number, profile as u64),
@@ -138,9 +152,7 @@ impl Generator {
             guests: Vec::new(),
             guest_limit: 0,
             tilt: 7,
-        };
-        generator.prepare();
-        generator
+        }
     }
 
     /// The length of the pool that the journal runs on.

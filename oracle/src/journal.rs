@@ -2,6 +2,17 @@
 
 use crate::store::Call;
 
+/// The journal that document 01 prints in full.
+pub const DOCUMENT: [Entry; 7] = [
+    Entry::Seed { start: 2_147_483_648, end: 2_147_508_224 },
+    Entry::Acquire { code: 1 },
+    Entry::Acquire { code: 2 },
+    Entry::Acquire { code: 1 },
+    Entry::Release { base: 2_147_483_648, code: 1 },
+    Entry::Release { base: 2_147_483_648, code: 1 },
+    Entry::Report,
+];
+
 /// One entry of a journal.
 #[derive(Clone, Copy, Debug, PartialEq, Eq)]
 pub enum Entry {
@@ -19,6 +30,17 @@ impl Entry {
             Entry::Acquire { .. } => "acquire",
             Entry::Release { .. } => "release",
             Entry::Report => "report",
+        }
+    }
+
+    /// Its line of text: the name, addresses in base 16, a size code as `size` writes it.
+    pub fn line(self, size: impl Fn(u8) -> String) -> String {
+        let name = self.name();
+        match self {
+            Entry::Seed { start, end } => format!("{name} {start:#x} {end:#x}"),
+            Entry::Acquire { code } => format!("{name} {}", size(code)),
+            Entry::Release { base, code } => format!("{name} {base:#x} {}", size(code)),
+            Entry::Report => name.to_string(),
         }
     }
 }
@@ -46,6 +68,23 @@ pub fn release(base: u64, code: u8) -> Entry {
     Entry::Release { base, code }
 }
 
+/// What ends a journal early, and the byte at which that entry begins, the first one being 0.
+#[derive(Clone, Copy, Debug, PartialEq, Eq)]
+pub enum Bad {
+    UnknownKind { byte: usize, kind: u8 },
+    CutShort { byte: usize },
+}
+
+impl Bad {
+    /// The refusal number that its line prints.
+    pub fn refusal(self) -> u64 {
+        match self {
+            Bad::UnknownKind { .. } => 12,
+            Bad::CutShort { .. } => 13,
+        }
+    }
+}
+
 /// The bytes of a journal.
 pub fn encode(entries: &[Entry]) -> Vec<u8> {
     let mut bytes = Vec::new();
@@ -68,29 +107,31 @@ pub fn encode(entries: &[Entry]) -> Vec<u8> {
     bytes
 }
 
-/// The entries of a journal, and the refusal number (12 or 13) of what ends it early.
-pub fn decode(mut bytes: &[u8]) -> (Vec<Entry>, Option<u64>) {
+/// The entries of a journal, and what ends it early.
+pub fn decode(bytes: &[u8]) -> (Vec<Entry>, Option<Bad>) {
     let number = |at: &[u8]| u64::from_le_bytes(at[..8].try_into().expect("eight bytes"));
     let mut entries = Vec::new();
-    while let Some((&kind, rest)) = bytes.split_first() {
+    let mut rest = bytes;
+    while let Some((&kind, behind)) = rest.split_first() {
+        let byte = bytes.len() - rest.len();
         let length = match kind {
             1 => 16,
             2 => 1,
             3 => 9,
             4 => 0,
-            _ => return (entries, Some(12)),
+            _ => return (entries, Some(Bad::UnknownKind { byte, kind })),
         };
-        if rest.len() < length {
-            return (entries, Some(13));
+        if behind.len() < length {
+            return (entries, Some(Bad::CutShort { byte }));
         }
-        let (body, next) = rest.split_at(length);
+        let (body, next) = behind.split_at(length);
         entries.push(match kind {
             1 => Entry::Seed { start: number(body), end: number(&body[8..]) },
             2 => Entry::Acquire { code: body[0] },
             3 => Entry::Release { base: number(body), code: body[8] },
             _ => Entry::Report,
         });
-        bytes = next;
+        rest = next;
     }
     (entries, None)
 }

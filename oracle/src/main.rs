@@ -1,14 +1,14 @@
 //! The judges of document 01 from the command line.
 
-use oracle::compare::{Found, compare_readings, plan, sweep, table};
+use oracle::compare::{Job, compare_readings, plan, sweep, table};
 use oracle::damage::list;
+use oracle::explain::{explain, keep};
 use oracle::generate::{Profile, record};
 use oracle::journal::encode;
-use oracle::shrink::shrink;
-use oracle::{calls, damage, mutants, original, reference};
-use std::io::{Read, Write, stdin, stdout};
+use oracle::streams::{print, read_input};
+use oracle::{calls, damage, mutants, original, reference, replay, sample};
 use std::process::ExitCode;
-use std::time::{Duration, Instant};
+use std::time::Instant;
 
 const USAGE: &str = "usage:
   oracle reference < JOURNAL                   what document 01 prints
@@ -16,6 +16,9 @@ const USAGE: &str = "usage:
   oracle sizes < ROWS                          what the original Rust says of sizes, and of an address and an end a row
   oracle journal PROFILE NUMBER LENGTH > FILE  writes a generated journal
   oracle compare [ENTRIES [NUMBER [PROFILE]]]  compares all judges (200000 entries, numbers from 1 on, all profiles)
+  oracle replay PROGRAM [ENTRIES [NUMBER [PROFILE]]]
+                                               compares them, and a program that replays journals with them (50000)
+  oracle sample FOLDER                         writes the fixed sample of journals and what they must print
   oracle damage [STORES [NUMBER]]              compares two judges of soundness on damaged stores (100000)
   oracle calls-list FILE                       writes stores, damaged stores and journals for a program that makes all calls
   oracle calls-answers < LIST                  what such a program must print, by the reference
@@ -30,11 +33,8 @@ const ENTRIES: u64 = 200_000;
 /// How many damaged stores are compared unless the command says so.
 const STORES: u64 = 100_000;
 
-/// How long a differing journal is made smaller.
-const SHRINKING: Duration = Duration::from_secs(20);
-
-/// Where the bytes of a differing journal go.
-const FILE: &str = "difference.journal";
+/// How many entries a program replays unless the command says so.
+const REPLAYED: u64 = 50_000;
 
 fn main() -> ExitCode {
     let arguments: Vec<String> = std::env::args().skip(1).collect();
@@ -45,6 +45,8 @@ fn main() -> ExitCode {
         ["sizes"] => read_input().and_then(|bytes| print(original::sizes(&bytes).as_bytes())),
         ["journal", profile, number, length] => write_journal(profile, number, length),
         ["compare", ref rest @ ..] if rest.len() <= 3 => compare(rest),
+        ["replay", program, ref rest @ ..] if rest.len() <= 3 => run_replay(program, rest),
+        ["sample", folder] => sample::write(folder).and_then(|text| print(text.as_bytes())),
         ["damage", ref rest @ ..] if rest.len() <= 2 => run_damage(rest),
         ["calls-list", file] => write_to(file, &calls::list()),
         ["calls-answers"] => read_input().and_then(|bytes| print(&calls::answers(&bytes, reference::CALLS))),
@@ -64,16 +66,6 @@ fn main() -> ExitCode {
 fn usage() -> String {
     let names: Vec<&str> = Profile::ALL.iter().map(|profile| profile.name()).collect();
     format!("{USAGE} {}", names.join(" "))
-}
-
-fn read_input() -> Result<Vec<u8>, String> {
-    let mut bytes = Vec::new();
-    stdin().read_to_end(&mut bytes).map_err(|error| format!("the input cannot be read: {error}"))?;
-    Ok(bytes)
-}
-
-fn print(bytes: &[u8]) -> Result<(), String> {
-    stdout().write_all(bytes).map_err(|error| format!("the output cannot be written: {error}"))
 }
 
 fn number(text: &str) -> Result<u64, String> {
@@ -96,39 +88,34 @@ fn write_journal(name: &str, journal: &str, length: &str) -> Result<(), String> 
     print(&encode(&entries))
 }
 
-fn compare(arguments: &[&str]) -> Result<(), String> {
-    let entries = number_or(arguments, 0, ENTRIES)?;
+/// The journals that `[ENTRIES [NUMBER [PROFILE]]]` name, with their entries in all and the first number.
+fn planned(arguments: &[&str], usual: u64) -> Result<(Vec<Job>, u64, u64), String> {
+    let entries = number_or(arguments, 0, usual)?;
     let first = number_or(arguments, 1, 1)?;
     let one = arguments.get(2).map(|name| profile(name)).transpose()?;
     let profiles = one.as_ref().map_or(Profile::ALL, std::slice::from_ref);
+    Ok((plan(profiles, first, entries), entries, first))
+}
+
+fn compare(arguments: &[&str]) -> Result<(), String> {
+    let (jobs, entries, first) = planned(arguments, ENTRIES)?;
     let began = Instant::now();
-    let tallies = sweep(None, &plan(profiles, first, entries)).map_err(|found| explain(&found))?;
-    let readings = compare_readings(first).map_err(|(difference, bytes)| write_file(&bytes, difference.to_string()))?;
-    let seconds = began.elapsed().as_secs_f64();
+    let tallies = sweep(None, &jobs).map_err(|found| explain(&found.job.to_string(), &found.differing))?;
+    let readings = compare_readings(first).map_err(|(difference, bytes)| keep(&bytes, difference.to_string()))?;
     let text = table(&tallies);
-    print(format!("{text}read {readings} journals cut short or of random bytes\n").as_bytes())?;
-    print(format!("compared {entries} entries in {seconds:.1} s: no difference\n").as_bytes())
+    print_compared(&format!("{text}read {readings} journals cut short or of random bytes\n"), entries, began)
 }
 
-/// The difference, the smallest journal that shows one, and where its bytes are.
-fn explain(found: &Found) -> String {
-    let (job, (difference, entries, pool_words)) = (found.job, &found.differing);
-    let name = job.profile.name();
-    let text = format!("{name} {} of {} entries differs at {difference}\n", job.number, job.length);
-    match shrink(None, entries, *pool_words, SHRINKING) {
-        Some(smallest) => {
-            write_file(&encode(&smallest.entries), format!("{text}the smallest journal found:\n{smallest}"))
-        }
-        None => write_file(&encode(entries), format!("{text}its entries by themselves do not differ")),
-    }
+fn run_replay(program: &str, arguments: &[&str]) -> Result<(), String> {
+    let (jobs, entries, first) = planned(arguments, REPLAYED)?;
+    let began = Instant::now();
+    print_compared(&replay::run(program, &jobs, first)?, entries, began)
 }
 
-/// Keeps the bytes of a differing journal, and adds to the text where they are.
-fn write_file(bytes: &[u8], text: String) -> String {
-    match std::fs::write(FILE, bytes) {
-        Ok(()) => format!("{text}\nthe journal's bytes are in {FILE}"),
-        Err(error) => format!("{text}\nthe journal's bytes cannot be written to {FILE}: {error}"),
-    }
+/// Prints what is compared, and a last line with the entries and the time.
+fn print_compared(text: &str, entries: u64, began: Instant) -> Result<(), String> {
+    let seconds = began.elapsed().as_secs_f64();
+    print(format!("{text}compared {entries} entries in {seconds:.1} s: no difference\n").as_bytes())
 }
 
 fn run_damage(arguments: &[&str]) -> Result<(), String> {

@@ -4,28 +4,20 @@ use oracle::compare::{
     Difference, Job, compare, compare_generated, compare_readings, compare_tightly, lines, plan, sweep, table,
 };
 use oracle::generate::Profile;
-use oracle::journal::{Entry, decode, encode};
+use oracle::journal::{DOCUMENT as JOURNAL, Entry, decode, encode};
 use oracle::reference;
 use oracle::shrink::{Smallest, shrink};
 use oracle::store::{Answer, Calls, JOURNAL_POOL, POOL_LIMIT, State};
-use std::io::Write;
-use std::process::{Command, Output, Stdio};
+use std::process::Output;
 use std::time::Duration;
+
+mod program;
 
 const GIB_2: u64 = 2_147_483_648;
 const GIB_512: u64 = 549_755_813_888;
 const LIMIT: Duration = Duration::from_secs(20);
 
-/// The journal that document 01 prints in full, and its lines.
-const JOURNAL: [Entry; 7] = [
-    Entry::Seed { start: GIB_2, end: GIB_2 + 24_576 },
-    Entry::Acquire { code: 1 },
-    Entry::Acquire { code: 2 },
-    Entry::Acquire { code: 1 },
-    Entry::Release { base: GIB_2, code: 1 },
-    Entry::Release { base: GIB_2, code: 1 },
-    Entry::Report,
-];
+/// The lines of document 01's journal.
 const LINES: &str = "pool 16384\n1 seed 0\n2 acquire 0 2147483648 7\n3 acquire 8 0 0\n4 acquire 0 2147487744 8\n\
                      5 release 0\n6 release 7\n7 report 0 24576 20480 1 1423\n";
 
@@ -237,13 +229,9 @@ fn differences_in_plain_words() {
     assert_eq!(difference.to_string(), text);
 }
 
-/// Runs the program with arguments and bytes to read.
+/// Runs the judges' program with arguments and bytes to read.
 fn program(arguments: &[&str], bytes: &[u8]) -> Output {
-    let mut command = Command::new(env!("CARGO_BIN_EXE_oracle"));
-    command.args(arguments).stdin(Stdio::piped()).stdout(Stdio::piped()).stderr(Stdio::piped());
-    let mut child = command.spawn().expect("the program starts");
-    child.stdin.take().expect("a pipe").write_all(bytes).expect("it reads all");
-    child.wait_with_output().expect("the program ends")
+    program::run(env!("CARGO_BIN_EXE_oracle"), arguments, bytes)
 }
 
 #[test]

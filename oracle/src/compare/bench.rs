@@ -52,6 +52,8 @@ pub struct Bench {
     before: Vec<u32>,
     pub(super) entries: Vec<Entry>,
     pub(super) lines: String,
+    /// What the original says, a line for each entry.
+    pub(super) told: String,
     pub(super) run: Run,
 }
 
@@ -75,6 +77,7 @@ impl Bench {
             before: unwritten(pool_words),
             entries: Vec::new(),
             lines: format!("pool {pool_words}\n"),
+            told: String::new(),
             run: Run::default(),
         };
         bench.do_fresh()?;
@@ -115,7 +118,7 @@ impl Bench {
     /// What every judge says to an entry, not compared. The bench is of no use behind it.
     pub fn ask_all(mut self, entry: Entry) -> Vec<(&'static str, String)> {
         let answer = guarded(|| self.reference.call(entry));
-        let driven = !matches!(answer, Ok(Answer { refusal: 5 | 9, .. }));
+        let driven = answer.as_ref().map_or(true, |answer| original::is_asked(answer.refusal));
         let mut said = vec![("reference", answer.map_or_else(|text| text, |answer| of_answer(&answer)))];
         if let Some(candidate) = &mut self.candidate {
             let answer = guarded(|| candidate.call(entry));
@@ -300,12 +303,13 @@ impl Bench {
         self.expect(tokens == frames, "the free ranges differ", said)
     }
 
-    /// The original is not asked where the reference refuses with 5 or 9: it has no such limits and would accept.
     fn ask_original(&mut self, entry: Entry, answer: &Answer) -> Result<(), Difference> {
-        if matches!(answer.refusal, 5 | 9) {
+        if !original::is_asked(answer.refusal) {
+            self.told += &original::line(self.entries.len(), entry, None);
             return Ok(());
         }
         let told = guarded(|| self.original.answer(entry)).map_err(|text| self.panicked("original", text))?;
+        self.told += &original::line(self.entries.len(), entry, Some(told));
         let wanted = wanted_of_original(entry, answer);
         let said = || {
             let translated = format!("{}, so {}", of_answer(answer), of_original(wanted));

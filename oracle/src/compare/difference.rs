@@ -32,14 +32,9 @@ impl fmt::Display for Difference {
     }
 }
 
-/// An entry as a line of text, addresses in base 16.
+/// An entry as a line of text, addresses in base 16, sizes by code.
 pub fn wording(entry: Entry) -> String {
-    match entry {
-        Entry::Seed { start, end } => format!("seed {start:#x} {end:#x}"),
-        Entry::Acquire { code } => format!("acquire {code}"),
-        Entry::Release { base, code } => format!("release {base:#x} {code}"),
-        Entry::Report => "report".to_string(),
-    }
+    entry.line(|code| code.to_string())
 }
 
 /// A refusal number and results.

@@ -17,7 +17,7 @@ const CUT_ENTRIES: usize = 16;
 const RANDOM_BYTES: u64 = 64;
 
 /// How many random journals there are of each length.
-const RANDOM_JOURNALS: u64 = 8;
+pub const RANDOM_JOURNALS: u64 = 8;
 
 /// The line of an entry.
 pub fn line(number: usize, entry: Entry, answer: &Answer) -> String {
@@ -39,8 +39,8 @@ pub fn lines(calls: Calls, bytes: &[u8]) -> String {
         lines += &line(index + 1, entry, &answer);
         state = answer.state;
     }
-    if let Some(refusal) = bad {
-        lines += &format!("{} bad {refusal}\n", entries.len() + 1);
+    if let Some(bad) = bad {
+        lines += &format!("{} bad {}\n", entries.len() + 1, bad.refusal());
     }
     lines
 }
@@ -59,12 +59,18 @@ impl Bench {
     }
 }
 
+/// The number of the first line in which two texts differ, counted from 0, and what each has there.
+pub fn first_differing(one: &str, other: &str) -> (usize, String, String) {
+    let lines = |text| str::split_inclusive(text, '\n');
+    let same = lines(one).zip(lines(other)).take_while(|pair| pair.0 == pair.1).count();
+    let of = |text| lines(text).nth(same).map_or("no more lines".to_string(), |line| format!("{line:?}"));
+    (same, of(one), of(other))
+}
+
 /// The first line in which the reference's program and the answers differ.
 fn differing_lines(printed: &str, answers: &str) -> Vec<(&'static str, String)> {
-    let pairs = printed.lines().zip(answers.lines());
-    let same = pairs.take_while(|pair| pair.0 == pair.1).count();
-    let of = |text: &str| text.lines().nth(same).unwrap_or("no more lines").to_string();
-    vec![("reference's program", of(printed)), ("lines of the answers", of(answers))]
+    let (_, printed, answers) = first_differing(printed, answers);
+    vec![("reference's program", printed), ("lines of the answers", answers)]
 }
 
 /// The reference's program prints for any bytes what the entries read from them make.
@@ -84,14 +90,15 @@ pub fn compare_printed(bytes: &[u8]) -> Result<(), Difference> {
 /// how many were read; a difference comes with its bytes.
 pub fn compare_readings(number: u64) -> Result<u64, (Difference, Vec<u8>)> {
     let mut read = 0;
-    for bytes in cut_journals(number).into_iter().chain(random_journals(number)) {
+    for bytes in cut_journals(number).into_iter().chain(random_journals(number, RANDOM_JOURNALS)) {
         compare_printed(&bytes).map_err(|difference| (difference, bytes))?;
         read += 1;
     }
     Ok(read)
 }
 
-fn cut_journals(number: u64) -> Vec<Vec<u8>> {
+/// Every cut of a journal of each profile.
+pub fn cut_journals(number: u64) -> Vec<Vec<u8>> {
     let mut cuts = Vec::new();
     for &profile in Profile::ALL {
         let bytes = encode(&record(profile, number, CUT_ENTRIES, reference::CALLS).1);
@@ -100,12 +107,13 @@ fn cut_journals(number: u64) -> Vec<Vec<u8>> {
     cuts
 }
 
-/// Random bytes; in half of the journals most bytes are kinds, so that more than the first entry is read.
-fn random_journals(number: u64) -> Vec<Vec<u8>> {
+/// Random bytes, so many journals of every length; in half of the journals most bytes are kinds, so that more than the
+/// first entry is read.
+pub fn random_journals(number: u64, count: u64) -> Vec<Vec<u8>> {
     let mut dice = Dice::new(number, RANDOM_BYTES);
     let mut journals = Vec::new();
     for length in 0..=RANDOM_BYTES {
-        for journal in 0..RANDOM_JOURNALS {
+        for journal in 0..count {
             let kinds = journal % 2 == 0;
             let bytes = (0..length).map(|_| if kinds && dice.chance(4, 5) { dice.below(6) } else { dice.below(256) });
             journals.push(bytes.map(|byte| byte as u8).collect());

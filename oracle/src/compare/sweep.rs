@@ -1,19 +1,15 @@
-//! Many journals on two threads.
+//! Many journals, and what they come to.
 
 use super::{Differing, Job, REFUSALS, Run, compare_generated, compare_tightly};
 use crate::generate::Profile;
 use crate::store::Calls;
-use std::sync::atomic::{AtomicBool, AtomicUsize, Ordering};
-use std::thread;
+use crate::threads::on_threads;
 
 /// How many entries journals have, by their number. Five lengths, as the generator turns on numbers by 2, 3 and 4.
 const LENGTHS: [usize; 5] = [150, 600, 50, 1_200, 300];
 
 /// How many entries a journal may have to be run again on pools that are just full.
 const TIGHT_LENGTH: usize = 150;
-
-/// How many threads compare.
-const THREADS: usize = 2;
 
 impl Job {
     /// Whether the journal is run again on pools that are just full. Only short ones are, to save time.
@@ -62,43 +58,21 @@ pub fn plan(profiles: &[Profile], number: u64, entries: u64) -> Vec<Job> {
 /// Compares all judges on the journals. Of several differences it gives that of the first journal, so that the same
 /// plan gives the same one whatever the threads do.
 pub fn sweep(candidate: Option<Calls>, jobs: &[Job]) -> Result<Vec<Tally>, Box<Found>> {
-    let next = AtomicUsize::new(0);
-    let stop = AtomicBool::new(false);
-    let work = || take_jobs(candidate, jobs, &next, &stop);
-    let mut outcomes = thread::scope(|scope| {
-        let threads: Vec<_> = (0..THREADS).map(|_| scope.spawn(work)).collect();
-        let done = threads.into_iter().flat_map(|thread| thread.join().expect("judges' panics are caught"));
-        done.collect::<Vec<_>>()
-    });
-    outcomes.sort_by_key(|outcome| outcome.0);
-    let mut tallies: Vec<Tally> = Vec::new();
-    for (index, outcome) in outcomes {
-        let job = jobs[index];
-        add(&mut tallies, job, outcome.map_err(|differing| Box::new(Found { job, differing }))?);
-    }
-    Ok(tallies)
+    let work = |&job: &Job| {
+        let compare = if job.is_tight() { compare_tightly } else { compare_generated };
+        compare(candidate, job)
+    };
+    let runs = on_threads(jobs, work).map_err(|(place, differing)| Box::new(Found { job: jobs[place], differing }))?;
+    Ok(tally(jobs, &runs))
 }
 
-/// Takes one job after the other until none is left or one differs. As jobs are taken in order, every job before one
-/// that differs is done to its end.
-fn take_jobs(
-    candidate: Option<Calls>,
-    jobs: &[Job],
-    next: &AtomicUsize,
-    stop: &AtomicBool,
-) -> Vec<(usize, Result<Run, Differing>)> {
-    let mut outcomes = Vec::new();
-    while !stop.load(Ordering::SeqCst) {
-        let index = next.fetch_add(1, Ordering::SeqCst);
-        let Some(&job) = jobs.get(index) else { break };
-        let compare = if job.is_tight() { compare_tightly } else { compare_generated };
-        let outcome = compare(candidate, job);
-        if outcome.is_err() {
-            stop.store(true, Ordering::SeqCst);
-        }
-        outcomes.push((index, outcome));
+/// What journals come to, by profile.
+pub fn tally(jobs: &[Job], runs: &[Run]) -> Vec<Tally> {
+    let mut tallies = Vec::new();
+    for (&job, &run) in jobs.iter().zip(runs) {
+        add(&mut tallies, job, run);
     }
-    outcomes
+    tallies
 }
 
 fn add(tallies: &mut Vec<Tally>, job: Job, run: Run) {
@@ -111,7 +85,7 @@ fn add(tallies: &mut Vec<Tally>, job: Job, run: Run) {
     let tally = &mut tallies[index];
     tally.journals += 1;
     tally.emptied += u64::from(run.emptied);
-    tally.tight += u64::from(job.is_tight());
+    tally.tight += u64::from(run.tight);
     tally.total.entries += run.entries;
     tally.total.given_back += run.given_back;
     tally.total.used = tally.total.used.max(run.used);

@@ -10,6 +10,9 @@ const MEETINGS: [u64; 8] = [0, 3 << 21, 1 << 30, 1 << 31, 5 << 30, 1 << 39, END 
 /// The shortest pools in which a block of code 1, 2, .. 6 can be stored.
 const ROOMS: [usize; 6] = [1_418, 1_413, 1_284, 771, 258, 1];
 
+/// The most words of a pool that a profile chooses to run dry.
+const DRY: u64 = 4_000;
+
 impl Generator {
     /// Settles what the profile needs before the first entry.
     pub(super) fn prepare(&mut self) {
@@ -168,16 +171,22 @@ impl Generator {
         self.scenes.push(scene);
     }
 
-    /// A pool of any length up to 4,000, or of one at which some opening just fits or just does not.
-    fn prepare_dry_pools(&mut self) {
+    /// For dry pools, a pool of any length up to 4,000, or of one at which some opening just fits or just does not.
+    pub(super) fn choose_pool(&mut self) {
+        if self.profile != Profile::DryPools {
+            return;
+        }
         let needed = self.dice.pick(&ROOMS) as u64;
         let room = match self.dice.below(4) {
             0 => needed + self.dice.below(3),
             1 => (needed + 5 * self.dice.below(12)).saturating_sub(self.dice.below(2)),
-            2 => self.dice.between(1_413, 4_000),
-            _ => self.dice.between(1, 4_000),
+            2 => self.dice.between(1_413, DRY),
+            _ => self.dice.between(1, DRY),
         };
         self.pool_words = room.max(1) as usize;
+    }
+
+    fn prepare_dry_pools(&mut self) {
         for _ in 0..8 {
             self.scatter();
         }
@@ -188,8 +197,23 @@ impl Generator {
         (1..=6).find(|&code| ROOMS[usize::from(code) - 1] <= self.pool_words).unwrap_or(6)
     }
 
-    /// A small region anywhere, near or far from the others, that the pool may have no room for.
+    /// A region that the pool may have no room for.
     pub(super) fn scatter(&mut self) {
+        let region = if self.pool_words as u64 > DRY { self.wide_region() } else { self.far_region() };
+        self.waiting.push_back(region);
+    }
+
+    /// A region from a few frames before a large block to a few behind it. It opens the blocks on both sides down to
+    /// their frames, so that seven or eight such regions fill the pool of the journal program.
+    fn wide_region(&mut self) -> (u64, u64) {
+        let bytes = SIZES[self.dice.pick(&[4, 4, 4, 4, 3])];
+        let base = self.dice.between(1, END / bytes - 2) * bytes;
+        let (before, behind) = (self.dice.between(1, 5) * FRAME, self.dice.between(1, 5) * FRAME);
+        (base - before, base + bytes + behind)
+    }
+
+    /// A small region anywhere, near or far from the others.
+    fn far_region(&mut self) -> (u64, u64) {
         let granule = self.granule();
         let code = if self.dice.chance(2, 3) { granule } else { self.dice.between(1, 6) as u8 };
         let bytes = SIZES[usize::from(code) - 1];
@@ -198,7 +222,7 @@ impl Generator {
         let start = Page::around(near + self.dice.below(spread), code).base;
         let end = (start + self.dice.between(1, 5) * bytes).min(END);
         let extra = if self.dice.chance(1, 4) { FRAME.min(END - end) } else { 0 };
-        self.waiting.push_back((start, end + extra));
+        (start, end + extra)
     }
 
     /// A region of some 16 KiB or 2 MiB pages, and one that touches it.

@@ -28,8 +28,13 @@ impl Tally {
 
 /// Runs a journal on the frames alone, or with the pool's room too.
 fn journal(profile: Profile, number: u64, length: usize, with_room: bool, tally: &mut Tally) -> Vec<Entry> {
-    let mut generator = Generator::new(profile, number);
+    let generator = Generator::new(profile, number);
     let words = if with_room { generator.pool_words() } else { 1 << 40 };
+    run(generator, words, length, tally)
+}
+
+/// Runs so many entries of a generator on the frames and so many words of room.
+fn run(mut generator: Generator, words: usize, length: usize, tally: &mut Tally) -> Vec<Entry> {
     let mut room = Room::new(words);
     let mut entries = Vec::new();
     for _ in 0..length {
@@ -40,7 +45,8 @@ fn journal(profile: Profile, number: u64, length: usize, with_room: bool, tally:
         *tally.counts.entry((entry.name(), answer.refusal)).or_default() += 1;
         entries.push(entry);
     }
-    assert_eq!(held_frames(&generator.ledger), room.frames.held(), "{profile:?} {number}");
+    let Generator { profile, number, ledger, .. } = generator;
+    assert_eq!(held_frames(&ledger), room.frames.held(), "{profile:?} {number}");
     tally.most_used = tally.most_used.max(room.used());
     entries
 }
@@ -177,6 +183,30 @@ fn dry_pools_have_all_lengths() {
     assert!(words.iter().all(|words| (1..=4_000).contains(words)));
     for limits in [(1, 257), (258, 770), (771, 1_283), (1_284, 1_412), (1_413, 1_417), (1_418, 4_000)] {
         assert!(words.iter().any(|&words| limits.0 <= words && words <= limits.1), "{limits:?}");
+    }
+}
+
+#[test]
+fn a_long_pool_runs_dry_too() {
+    let mut tally = Tally::default();
+    for number in 0..20 {
+        let generator = Generator::on_pool(Profile::DryPools, number, JOURNAL_POOL);
+        assert_eq!(generator.pool_words(), JOURNAL_POOL);
+        run(generator, JOURNAL_POOL, 300, &mut tally);
+    }
+    for name in ["seed", "acquire", "release"] {
+        let nines = tally.counts.get(&(name, 9)).copied().unwrap_or(0);
+        assert!(nines >= 20, "{name}: {nines}, {tally:?}");
+    }
+}
+
+#[test]
+fn a_given_pool_of_the_profiles_own_length_changes_nothing() {
+    for &profile in Profile::ALL.iter().filter(|&&profile| profile != Profile::DryPools) {
+        let (mut own, mut given) = (Generator::new(profile, 3), Generator::on_pool(profile, 3, JOURNAL_POOL));
+        for _ in 0..50 {
+            assert_eq!(own.next(), given.next());
+        }
     }
 }
 

@@ -187,22 +187,34 @@ fn store_page(allocator: &mut PageAllocator, base: u64, size: PageSize) -> Resul
     Ok(0)
 }
 
-/// Replays a journal: one line an entry, with its number, its name and what the original says.
+/// Whether the original is asked where document 01 refuses with this number. It has no limits of regions (5) and of
+/// pool words (9): it would accept there, and its tree would be another one from then on.
+pub fn is_asked(refusal: u64) -> bool {
+    !matches!(refusal, 5 | 9)
+}
+
+/// The line of an entry, with its number, its name and what the original says if it is asked.
+pub fn line(number: usize, entry: Entry, told: Option<Told>) -> String {
+    let told = match (told, entry) {
+        (Some(Told::Answered { refusal, base }), Entry::Acquire { .. }) => format!("{refusal} {base}"),
+        (Some(Told::Answered { refusal, .. }), _) => refusal.to_string(),
+        (Some(Told::Panicked), _) => "panic".to_string(),
+        (Some(Told::Outside), _) => "outside".to_string(),
+        (None, _) => "not asked".to_string(),
+    };
+    format!("{number} {} {told}\n", entry.name())
+}
+
+/// Replays a journal: one line an entry.
 pub fn replay(bytes: &[u8]) -> String {
     let (entries, bad) = decode(bytes);
     let mut original = Original::new();
     let mut lines = String::new();
     for (index, &entry) in entries.iter().enumerate() {
-        let told = match (original.answer(entry), entry) {
-            (Told::Answered { refusal, base }, Entry::Acquire { .. }) => format!("{refusal} {base}"),
-            (Told::Answered { refusal, .. }, _) => refusal.to_string(),
-            (Told::Panicked, _) => "panic".to_string(),
-            (Told::Outside, _) => "outside".to_string(),
-        };
-        lines += &format!("{} {} {told}\n", index + 1, entry.name());
+        lines += &line(index + 1, entry, Some(original.answer(entry)));
     }
-    if let Some(refusal) = bad {
-        lines += &format!("{} bad {refusal}\n", entries.len() + 1);
+    if let Some(bad) = bad {
+        lines += &format!("{} bad {}\n", entries.len() + 1, bad.refusal());
     }
     lines
 }
@@ -275,7 +287,7 @@ fn address(number: u64) -> ConfidentialMemoryAddress {
 mod tests {
     use super::stand_ins::MemoryLayout;
     use super::*;
-    use crate::journal::{acquire, encode, release, seed};
+    use crate::journal::{DOCUMENT, acquire, encode, release, seed};
     use std::collections::BTreeSet;
 
     const KIB_4: u64 = 4_096;
@@ -340,18 +352,9 @@ mod tests {
 
     #[test]
     fn the_documents_journal() {
-        let journal = encode(&[
-            seed(GIB_2, GIB_2 + 24_576),
-            acquire(1),
-            acquire(2),
-            acquire(1),
-            release(GIB_2, 1),
-            release(GIB_2, 1),
-            Entry::Report,
-        ]);
         let lines = "1 seed 0\n2 acquire 0 2147483648\n3 acquire 8 0\n4 acquire 0 2147487744\n\
                      5 release 0\n6 release outside\n7 report outside\n";
-        assert_eq!(replay(&journal), lines);
+        assert_eq!(replay(&encode(&DOCUMENT)), lines);
     }
 
     #[test]

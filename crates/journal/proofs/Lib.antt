@@ -1,0 +1,7 @@
+pub mod Entries
+pub mod Steps
+pub mod Unique
+pub mod Joined
+pub mod Journals
+pub mod Cases
+pub mod Lines
