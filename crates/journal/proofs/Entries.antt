@@ -31,23 +31,30 @@ module _ (j : List ℕ) where
       let b = number-next at (at + 1) 0 refl h in
       omega (arith, b, number-none (at + 1))
 
-  -- a number of eight bytes
+  -- a number of eight bytes, the lowest first
   pub number-eight :
       (at : ℕ)
       → at + 8 ≤ length j
-      → getD j at 0 + 256 * getD j (at + 1) 0 + 65536 * getD j (at + 2) 0 + 16777216 * getD j (at + 3) 0
-      + 4294967296 * (getD j (at + 4) 0 + 256 * getD j (at + 5) 0 + 65536 * getD j (at + 6) 0 + 16777216 * getD j (at + 7) 0)
-      ≡ number (take 8 (drop at j))
-  number-eight at h =
-      let b0 = number-next at (at + 1) 7 refl (omega arith) in
-      let b1 = number-next (at + 1) (at + 2) 6 (omega arith) (omega arith) in
-      let b2 = number-next (at + 2) (at + 3) 5 (omega arith) (omega arith) in
-      let b3 = number-next (at + 3) (at + 4) 4 (omega arith) (omega arith) in
-      let b4 = number-next (at + 4) (at + 5) 3 (omega arith) (omega arith) in
-      let b5 = number-next (at + 5) (at + 6) 2 (omega arith) (omega arith) in
-      let b6 = number-next (at + 6) (at + 7) 1 (omega arith) (omega arith) in
-      let b7 = number-next (at + 7) (at + 8) 0 (omega arith) (omega arith) in
-      omega (arith, b0, b1, b2, b3, b4, b5, b6, b7, number-none (at + 8))
+      → (a b c d e f g h : ℕ)
+      → a ≡ getD j at 0
+      → b ≡ getD j (at + 1) 0
+      → c ≡ getD j (at + 2) 0
+      → d ≡ getD j (at + 3) 0
+      → e ≡ getD j (at + 4) 0
+      → f ≡ getD j (at + 5) 0
+      → g ≡ getD j (at + 6) 0
+      → h ≡ getD j (at + 7) 0
+      → a + 256 * b + 65536 * c + 16777216 * d + 4294967296 * (e + 256 * f + 65536 * g + 16777216 * h) ≡ number (take 8 (drop at j))
+  number-eight at l a b c d e f g h ea eb ec ed ee ef eg eh =
+      let n0 = number-next at (at + 1) 7 refl (omega arith) in
+      let n1 = number-next (at + 1) (at + 2) 6 (omega arith) (omega arith) in
+      let n2 = number-next (at + 2) (at + 3) 5 (omega arith) (omega arith) in
+      let n3 = number-next (at + 3) (at + 4) 4 (omega arith) (omega arith) in
+      let n4 = number-next (at + 4) (at + 5) 3 (omega arith) (omega arith) in
+      let n5 = number-next (at + 5) (at + 6) 2 (omega arith) (omega arith) in
+      let n6 = number-next (at + 6) (at + 7) 1 (omega arith) (omega arith) in
+      let n7 = number-next (at + 7) (at + 8) 0 (omega arith) (omega arith) in
+      omega (arith, n0, n1, n2, n3, n4, n5, n6, n7, number-none (at + 8))
 
   -- the body starts at b
   module _ (b : ℕ) where

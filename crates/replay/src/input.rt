@@ -1,11 +1,9 @@
 // Standard input, by a buffer.
+use crate::BUFFER;
 use libc::STDIN_FILENO;
 ghost use mathlib.Core.Path.{_≡_};
 ghost use Prim.Native.Nat.{_+_, _≤_};
 ghost use lib.ListN.{length};
-
-// How many bytes the buffer has.
-pub const BUFFER: usize = 4096;
 
 // What is read: where it ends in the buffer, and whether the input has ended or cannot be read.
 pub struct Filled {

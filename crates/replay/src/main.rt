@@ -13,6 +13,9 @@ ghost use lib.ListN.{length};
 // How many words the pool has.
 const POOL: usize = 16384;
 
+// How many bytes the buffers have, that of the input and that of the output.
+const BUFFER: usize = 4096;
+
 // A replay under way: the store's state, how many entries were served, the index behind them, how much of the output waits to
 // be written, and whether the run is over.
 struct Replay {
@@ -41,14 +44,9 @@ fn ends(line: Line) -> bool {
 }
 
 // Prints a line behind what waits, which is written first where there is no room for another.
-fn print(
-    replay: Replay,
-    text: &mut [u8; output::BUFFER],
-    line: &[u8; LINE],
-    bytes: usize,
-) -> Replay {
+fn print(replay: Replay, text: &mut [u8; BUFFER], line: &[u8; LINE], bytes: usize) -> Replay {
     let mut next = replay;
-    if output::BUFFER - LINE < replay.waiting {
+    if BUFFER - LINE < replay.waiting {
         next.waiting = 0;
         if !output::flush(text, replay.waiting) {
             next.over = true;
@@ -60,12 +58,7 @@ fn print(
 }
 
 // Serves the next entry of the bytes and prints its line.
-fn serve(
-    replay: Replay,
-    pool: &mut [u32],
-    bytes: &[u8],
-    text: &mut [u8; output::BUFFER],
-) -> Replay {
+fn serve(replay: Replay, pool: &mut [u32], bytes: &[u8], text: &mut [u8; BUFFER]) -> Replay {
     let step = journal::step(replay.state, pool, bytes, replay.at);
     let state = step.state;
     let line = step.line;
@@ -87,7 +80,7 @@ fn serve_all(
     pool: &mut [u32],
     bytes: &[u8],
     last: bool,
-    text: &mut [u8; output::BUFFER],
+    text: &mut [u8; BUFFER],
 ) -> Replay {
     let mut now = replay;
     let most = bytes.len();
@@ -111,7 +104,7 @@ fn serve_part(
     bytes: &[u8],
     to: usize,
     last: bool,
-    text: &mut [u8; output::BUFFER],
+    text: &mut [u8; BUFFER],
 ) -> Replay
     requires { ⌜ to ≤ length (now bytes) ⌝ }
 {
@@ -122,10 +115,10 @@ fn serve_part(
 fn serve_buffer(
     replay: Replay,
     pool: &mut [u32],
-    bytes: &[u8; input::BUFFER],
+    bytes: &[u8; BUFFER],
     to: usize,
     last: bool,
-    text: &mut [u8; output::BUFFER],
+    text: &mut [u8; BUFFER],
 ) -> Replay
     requires { ⌜ to ≤ 4096 ⌝ }
 {
@@ -144,7 +137,7 @@ fn print_pool() -> bool {
 }
 
 // Replays the journal on a store up to its end.
-fn replay_journal(state: State, pool: &mut [u32], text: &mut [u8; output::BUFFER]) -> Replay {
+fn replay_journal(state: State, pool: &mut [u32], text: &mut [u8; BUFFER]) -> Replay {
     let mut now = Replay {
         state,
         entries: 0,
@@ -152,7 +145,7 @@ fn replay_journal(state: State, pool: &mut [u32], text: &mut [u8; output::BUFFER
         waiting: 0,
         over: false,
     };
-    let mut bytes = [0u8; input::BUFFER];
+    let mut bytes = [0u8; BUFFER];
     let mut to: usize = 0;
     // No input is so long: the count falls, so that the loop ends on any input.
     let mut left = u64::MAX;
@@ -174,7 +167,7 @@ fn main() {
         return;
     }
     let mut pool = [0u32; POOL];
-    let mut text = [0u8; output::BUFFER];
+    let mut text = [0u8; BUFFER];
     let made = pages::fresh(&mut pool);
     let state = made.state;
     let end = replay_journal(state, &mut pool, &mut text);

@@ -1,11 +1,9 @@
 // Standard output, by a buffer.
+use crate::BUFFER;
 use journal::LINE;
 use libc::STDOUT_FILENO;
 ghost use Prim.Native.Nat.{_≤_};
 ghost use lib.ListN.{length};
-
-// How many bytes the buffer has.
-pub const BUFFER: usize = 4096;
 
 // Writes the bytes of a buffer up to an index; no where they cannot be written.
 fn write_first(text: &[u8], full: usize) -> bool

@@ -1,33 +1,25 @@
+-- The body of an acquire, cut short or whole. Assumes nothing.
 use borrow.Author.Needs.{needs}
 use mathlib.Core.Path.{_∙_}
 use Rattle.journal.proofs.Entries.{acquire-cut, acquire-read}
 use Rattle.journal.proofs.read_acquire.Statement.{statement}
 use Rattle.journal.proofs.read_acquire.Tie as tie
-use Rattle.journal.proofs.read_acquire.Reads as reads
-use Rattle.journal.proofs.read_acquire.Lts as lts
-use Rattle.journal.proofs.no_entry.Reads as no-entry-reads
 
--- src/lib.rt:120:8
 sub-if1 : tie.Need-sub-if1
 sub-if1 c = search needs
 
--- src/lib.rt:121:9
 no-entry-requires : tie.Need-no-entry-requires
 no-entry-requires c κs = search needs
 
--- src/lib.rt:121:9
 returns : tie.Need-returns
 returns c = c .no-entry .ensures ∙ acquire-cut (c .before .before .before .args .journal .now) (c .before .before .before .args .body) (c .before .if1 .taken)
 
--- src/lib.rt:123:16
 shared-slice-read-code : tie.Need-shared-slice-read-code
 shared-slice-read-code c = search needs
 
--- src/lib.rt:126:15
 add-t5 : tie.Need-add-t5
 add-t5 c = search needs
 
--- src/lib.rt:115:1
 returns-2 : tie.Need-returns-2
 returns-2 c = acquire-read _ _ (c .before .if1 .left)
 

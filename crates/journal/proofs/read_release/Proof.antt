@@ -1,42 +1,31 @@
+-- The body of a release, cut short or whole. Assumes nothing.
 use borrow.Author.Needs.{needs}
 use mathlib.Core.Path.{_∙_}
 use Rattle.journal.proofs.Entries.{release-cut, release-read}
 use Rattle.journal.proofs.read_release.Statement.{statement}
 use Rattle.journal.proofs.read_release.Tie as tie
-use Rattle.journal.proofs.read_release.Reads as reads
-use Rattle.journal.proofs.read_release.Lts as lts
-use Rattle.journal.proofs.no_entry.Reads as no-entry-reads
-use Rattle.journal.proofs.number.Reads as number-reads
 
--- src/lib.rt:136:8
 sub-if1 : tie.Need-sub-if1
 sub-if1 c = search needs
 
--- src/lib.rt:137:9
 no-entry-requires : tie.Need-no-entry-requires
 no-entry-requires c κs = search needs
 
--- src/lib.rt:137:9
 returns : tie.Need-returns
 returns c = c .no-entry .ensures ∙ release-cut (c .before .before .before .args .journal .now) (c .before .before .before .args .body) (c .before .if1 .taken)
 
--- src/lib.rt:139:16
 add-last : tie.Need-add-last
 add-last c = search needs
 
--- src/lib.rt:140:24
 number-requires : tie.Need-number-requires
 number-requires c κs = search needs
 
--- src/lib.rt:141:16
 shared-slice-read-code : tie.Need-shared-slice-read-code
 shared-slice-read-code c = search needs
 
--- src/lib.rt:144:15
 add-t7 : tie.Need-add-t7
 add-t7 c = search needs
 
--- src/lib.rt:131:1
 returns-2 : tie.Need-returns-2
 returns-2 c = release-read _ _ (c .before .before .if1 .left) _ (c .before .number .ensures)
 

@@ -1,126 +1,91 @@
+-- The promise of each entry, from that of its call. Assumes nothing.
 use mathlib.Core.Path.{refl}
 use borrow.Author.Needs.{needs}
 use Rattle.journal.proofs.Steps.{seed-served, acquire-served, release-served, report-served, bad-served, end-served}
 use Rattle.journal.proofs.serve.Statement.{statement}
 use Rattle.journal.proofs.serve.Tie as tie
-use Rattle.journal.proofs.serve.Reads as reads
-use Rattle.journal.proofs.serve.Lts as lts
-use Rattle.journal.proofs.as_served.Reads as as-served-reads
-use Rattle.journal.proofs.wide.Reads as wide-reads
-use Rattle.pages.proofs.acquire.Reads as acquire-reads
-use Rattle.pages.proofs.release.Reads as release-reads
-use Rattle.pages.proofs.report.Reads as report-reads
-use Rattle.pages.proofs.seed.Reads as seed-reads
 
--- src/lib.rt:183:21
 enum-known-entry : tie.Need-enum-known-entry
 enum-known-entry c = search needs
 
--- src/lib.rt:184:17
 seed-requires : tie.Need-seed-requires
 seed-requires c κs = search needs
 
--- src/lib.rt:186:13
 as-served-requires : tie.Need-as-served-requires
 as-served-requires c κs = search needs
 
--- src/lib.rt:188:24
 enum-known-entry-2 : tie.Need-enum-known-entry-2
 enum-known-entry-2 c = search needs
 
--- src/lib.rt:189:53
 wide-requires : tie.Need-wide-requires
 wide-requires c κs = search needs
 
--- src/lib.rt:189:17
 acquire-requires : tie.Need-acquire-requires
 acquire-requires c κs = search needs
 
--- src/lib.rt:192:13
 as-served-requires-2 : tie.Need-as-served-requires-2
 as-served-requires-2 c κs = search needs
 
--- src/lib.rt:194:24
 enum-known-entry-3 : tie.Need-enum-known-entry-3
 enum-known-entry-3 c = search needs
 
--- src/lib.rt:195:58
 wide-requires-2 : tie.Need-wide-requires-2
 wide-requires-2 c κs = search needs
 
--- src/lib.rt:195:17
 release-requires : tie.Need-release-requires
 release-requires c κs = search needs
 
--- src/lib.rt:197:13
 as-served-requires-3 : tie.Need-as-served-requires-3
 as-served-requires-3 c κs = search needs
 
--- src/lib.rt:200:45
 enum-told : tie.Need-enum-told
 enum-told c = search needs
 
--- src/lib.rt:200:17
 report-requires : tie.Need-report-requires
 report-requires c κs = search needs
 
--- src/lib.rt:202:13
 as-served-requires-4 : tie.Need-as-served-requires-4
 as-served-requires-4 c κs = search needs
 
--- src/lib.rt:213:20
 enum-known-entry-4 : tie.Need-enum-known-entry-4
 enum-known-entry-4 c = search needs
 
--- src/lib.rt:213:32
 as-served-requires-5 : tie.Need-as-served-requires-5
 as-served-requires-5 c κs = search needs
 
--- src/lib.rt:214:40
 enum-told-2 : tie.Need-enum-told-2
 enum-told-2 c = search needs
 
--- src/lib.rt:214:23
 as-served-requires-6 : tie.Need-as-served-requires-6
 as-served-requires-6 c κs = search needs
 
--- src/lib.rt:179:1
 same-length : tie.Need-same-length
 same-length c = search needs
 
--- src/lib.rt:179:1
 returns : tie.Need-returns
 returns c = seed-served _ _ _ _ _ _ _ _ _ (c .before .before .before .before .before .before .before .entry .given .1) (c .as-served .ensures) (c .before .before .before .before .seed .ensures)
 
--- src/lib.rt:179:1
 same-length-2 : tie.Need-same-length-2
 same-length-2 c = search needs
 
--- src/lib.rt:179:1
 returns-2 : tie.Need-returns-2
 returns-2 c = acquire-served _ _ _ _ _ _ _ _ _ _ _ (c .before .before .before .before .before .before .before .before .before .entry2 .given .1) (c .as-served2 .ensures) (c .before .before .before .before .before .before .wide .ensures .0) (c .before .before .before .before .before .acquire .ensures)
 
--- src/lib.rt:179:1
 same-length-3 : tie.Need-same-length-3
 same-length-3 c = search needs
 
--- src/lib.rt:179:1
 returns-3 : tie.Need-returns-3
 returns-3 c = release-served _ _ _ _ _ _ _ _ _ _ (c .before .before .before .before .before .before .before .before .entry3 .given .1) (c .as-served3 .ensures) (c .before .before .before .before .before .wide2 .ensures .0) (c .before .before .before .before .release .ensures)
 
--- src/lib.rt:179:1
 same-length-4 : tie.Need-same-length-4
 same-length-4 c = search needs
 
--- src/lib.rt:179:1
 returns-4 : tie.Need-returns-4
 returns-4 c = report-served _ _ _ _ _ _ _ _ _ _ _ (c .before .before .before .before .enum-told .given .1) (c .as-served4 .ensures) (c .before .before .report .ensures)
 
--- src/lib.rt:179:1
 returns-5 : tie.Need-returns-5
 returns-5 c = bad-served _ _ _ _ _ _ (c .before .before .entry4 .given .1) (c .as-served5 .ensures) refl
 
--- src/lib.rt:179:1
 returns-6 : tie.Need-returns-6
 returns-6 c = end-served _ _ _ _ _ (c .before .enum-told2 .given .1) (c .as-served6 .ensures) refl
 

@@ -1,3 +1,4 @@
+-- The line of each entry. Assumes nothing.
 use mathlib.Core.Path.{refl}
 use borrow.Author.Needs.{needs}
 use Rattle.journal.specs.Lines.{lineText}

@@ -1,3 +1,4 @@
+-- The fewest digits of a number are its decimal. Assumes nothing.
 use Prim.Native.Nat.{ℕ}
 use mathlib.Core.Path.{ap, _∙_}
 use mathlib.Core.List.{List, _++_}

@@ -1,3 +1,4 @@
+-- The parts of a line, one behind the other. Assumes nothing.
 use lib.ListN.{take}
 use borrow.Author.Needs.{needs}
 use Rattle.journal.proofs.Lines.{counts, line-printed}
