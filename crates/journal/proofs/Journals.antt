@@ -21,7 +21,7 @@ use Rattle.journal.specs.declared.Reading.{Reading}
 use Rattle.journal.specs.declared.Line.{Line}
 use Rattle.journal.specs.declared.Line.the-variants.{Bad}
 use Rattle.journal.specs.Entries.{behind, readAt}
-use Rattle.journal.specs.Steps.{lineOf, Makes, asked, call}
+use Rattle.journal.specs.Steps.{lineOf, Makes, Asked, call, asked, Does, Steps}
 use Rattle.journal.proofs.Entries.{none-read}
 use Rattle.journal.specs.Journals.{Replays, ends, stops, makes, AsRun, Replayed}
 
@@ -78,3 +78,10 @@ module _ (j : List ℕ) where
   pub replayed : (n at : ℕ) (s : Store) → length j - at ≤ n → SoundStore six places poolLimit s → Places six places poolLimit s → Replayed j at s
   replayed zero at s l h a = record { lines = []; store = s; replays = ends (ap (λ (y : Reading). asked (y .entry)) (sym (none-read j at (omega (arith, l))))) }
   replayed (suc n) at s l h a = by-entry n at s l h a (replayed n) (readAt j at .entry) refl
+
+-- A STEP IS PART OF A REPLAY: of an entry that asks for a call
+pub step-replays : (j : List ℕ) (at n : ℕ) (s t u : Store) (line : Line) (lines : List Line) (c : Call) → asked (readAt j at .entry) ≡ call c → Steps s j at line t n → Replays j n t lines u → Replays j at s (line ∷ lines) u
+step-replays j at n s t u line lines c e m k =
+    makes c line e
+    (subst (λ (x : Asked). Does s x line t) e (m .serves))
+    (subst (λ (i : ℕ). Replays j i t lines u) (m .goes) k)

@@ -3,5 +3,6 @@ pub mod Steps
 pub mod Unique
 pub mod Joined
 pub mod Journals
+pub mod OneReplay
 pub mod Cases
 pub mod Lines

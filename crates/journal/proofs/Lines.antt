@@ -7,17 +7,12 @@ use native.Mathlib.Nat.{pow-suc, pow-le-pow-right, le-div-iff-mul-le, div-lt-iff
 use native.Mathlib.Numerals.{add-one}
 use native.Mathlib.Omega.{arith}
 use lib.Dec.{ltb}
-use lib.ListN.{length, take, set, getD}
-use lib.Seq.{length-take-le, take-all, take-suc, take-suc-set}
+use lib.ListN.{length, take, drop, set, getD, length-append}
+use lib.Seq.{length-take-le, take-all, take-suc, take-suc-set, drop-drop, drop-set-lt}
 use borrow.Author.Tests.{ltb-true, ltb-false}
-use Rattle.io.specs.Counts.{Counts}
 use Rattle.io.specs.Digits.{digits, Fewest}
 use Rattle.journal.specs.declared.Line.{Line}
-use Rattle.journal.specs.Lines.{width, decimal, spaced, printed, lineText}
-
--- so many bytes stand at the start
-pub counts : (r : ℕ) (l : List ℕ) → r ≤ length l → Counts r l
-counts r l h = (h, sym (length-take-le r l h))
+use Rattle.journal.specs.Lines.{width, decimal, spaced, printed, lineText, longestLine, Put, Appends}
 
 -- a number of two digits or more is no less than the power of ten that has as many
 reaches : (n k : ℕ) → Fewest 10 1 n (suc (suc k)) → 10 ^ suc k ≤ n
@@ -76,18 +71,48 @@ width-most (suc m) n = go (ltb n 10) (width m (n / 10)) (width-most m (n / 10))
 pub few-digits : (n k : ℕ) → n < 2 ^ 64 → Fewest 10 1 n k → k ≤ 20
 few-digits n k h f = omega (arith, fewest-width 19 n k f (omega arith), width-most 19 n)
 
+-- what stays from an index on stays from a later one on
+rest-later : (a b : List ℕ) (r s : ℕ) → r ≤ s → drop r a ≡ drop r b → drop s a ≡ drop s b
+rest-later a b r s h e =
+    let k : s ≡ r + (s - r) = omega arith in
+    rw k (sym (drop-drop (s - r) r a) ∙ ap (drop (s - r)) e ∙ drop-drop (s - r) r b)
+
+-- nothing is put
+pub put-none : (d : List ℕ) (at : ℕ) → Put d at [] at d
+put-none d at = record { index = sym (add-zero at); bytes = sym (append-nil (take at d)); rest = refl }
+
+-- one text is put behind another
+pub put-then : {d t a u z : List ℕ} {at r s : ℕ} → Put d at t r a → Put a r u s z → Put d at (t ++ u) s z
+put-then {d} {t} {a} {u} {z} {at} {r} {s} p q = record {
+  index = omega (arith, p .index, q .index, length-append t u);
+  bytes = q .bytes ∙ ap (λ (x : List ℕ). x ++ u) (p .bytes) ∙ append-assoc (take at d) t u;
+  rest = q .rest ∙ rest-later a d r s (omega (arith, q .index)) (p .rest);
+}
+
+-- the same of a text and an index that are known by equations
+pub put-as : {d t a : List ℕ} {at r : ℕ} (u : List ℕ) (s : ℕ) → t ≡ u → r ≡ s → Put d at t r a → Put d at u s a
+put-as {d} {t} {a} {at} {r} u s e f p = subst (λ (x : List ℕ). Put d at x s a) e (subst (λ (j : ℕ). Put d at t j a) f p)
+
+-- a byte is put
+put-byte : (d : List ℕ) (at x : ℕ) → at < length d → Put d at (x ∷ []) (suc at) (set d at x)
+put-byte d at x h = record {
+  index = omega arith;
+  bytes = take-suc-set d at x h;
+  rest = drop-set-lt (suc at) d at x (omega arith);
+}
+
 -- putting a text t behind the first `at` bytes of d, a byte each turn
 module _ (d : List ℕ) (at : ℕ) (t : List ℕ) where
-  pub put-none : take (at + 0) d ≡ take at d ++ []
-  put-none = ap (λ (j : ℕ). take j d) (add-zero at) ∙ sym (append-nil (take at d))
+  pub text-none : Put d at (take 0 t) (at + 0) d
+  text-none = put-as [] (at + 0) refl (sym (add-zero at)) (put-none d at)
 
-  pub put-more : (out : List ℕ) (i : ℕ) → at + i < length out → i < length t → take (at + i) out ≡ take at d ++ take i t → take (at + (i + 1)) (set out (at + i) (getD t i 0)) ≡ take at d ++ take (i + 1) t
-  put-more out i h k e =
-      rw (add-one i, add-suc at i, take-suc-set out (at + i) (getD t i 0) h, take-suc t i 0 k)
-      (ap (λ (s : List ℕ). s ++ (getD t i 0 ∷ [])) e ∙ append-assoc (take at d) (take i t) (getD t i 0 ∷ []))
+  pub text-more : (out : List ℕ) (i : ℕ) → at + i < length out → i < length t → Put d at (take i t) (at + i) out → Put d at (take (i + 1) t) (at + (i + 1)) (set out (at + i) (getD t i 0))
+  text-more out i h k p =
+      let e : suc (at + i) ≡ at + (i + 1) = omega arith in
+      put-as (take (i + 1) t) (at + (i + 1)) (rw (add-one i, take-suc t i 0 k) refl) e (put-then p (put-byte out (at + i) (getD t i 0) h))
 
-  pub put-all : (out : List ℕ) (i : ℕ) → i ≡ length t → take (at + i) out ≡ take at d ++ take i t → take (at + length t) out ≡ take at d ++ t
-  put-all out i k e = ap (λ (j : ℕ). take (at + j) out) (sym k) ∙ e ∙ ap (λ (s : List ℕ). take at d ++ s) (take-all i t (omega arith))
+  pub text-all : (out : List ℕ) (i : ℕ) → i ≡ length t → Put d at (take i t) (at + i) out → Put d at t (at + length t) out
+  text-all out i k p = put-as t (at + length t) (take-all i t (omega arith)) (ap (λ (j : ℕ). at + j) k) p
 
 -- the numbers of two lists
 spaced-append : (xs ys : List ℕ) → spaced (xs ++ ys) ≡ spaced xs ++ spaced ys
@@ -101,22 +126,34 @@ unfolding spaced
 spaced-more ns i h = rw (add-one i, take-suc ns i 0 h) (spaced-append (take i ns) (getD ns i 0 ∷ []) ∙ ap (λ (s : List ℕ). spaced (take i ns) ++ s) (append-nil (32 ∷ decimal (getD ns i 0))))
 
 -- before the first number, and behind the last
-pub number-none : (before : List ℕ) → before ≡ before ++ spaced []
+pub number-none : (d : List ℕ) (at : ℕ) → Put d at (spaced []) at d
 unfolding spaced
-number-none before = sym (append-nil before)
+number-none d at = put-none d at
 
-pub number-all : (ns before a : List ℕ) (i : ℕ) → length ns ≤ i → a ≡ before ++ spaced (take i ns) → a ≡ before ++ spaced ns
-number-all ns before a i h e = e ∙ ap (λ (s : List ℕ). before ++ spaced s) (take-all i ns h)
+pub number-all : {d a : List ℕ} {at r : ℕ} (ns : List ℕ) (i : ℕ) → length ns ≤ i → Put d at (spaced (take i ns)) r a → Put d at (spaced ns) r a
+number-all {r = r} ns i h p = put-as (spaced ns) r (ap spaced (take-all i ns h)) refl p
 
--- a space and a number, put behind what stands before and the first numbers
-pub number-more : (ns before a b c : List ℕ) (i : ℕ) → i < length ns → a ≡ before ++ spaced (take i ns) → b ≡ a ++ (32 ∷ []) → c ≡ b ++ decimal (getD ns i 0) → c ≡ before ++ spaced (take (i + 1) ns)
-number-more ns before a b c i h ea eb ec = rw (ec, eb, ea, spaced-more ns i h) (simp append-assoc)
+-- a space and a number, put behind the first numbers
+pub number-more : {d a b c : List ℕ} {at r s u : ℕ} (ns : List ℕ) (i : ℕ) → i < length ns → Put d at (spaced (take i ns)) r a → Put a r (32 ∷ []) s b → Put b s (decimal (getD ns i 0)) u c → Put d at (spaced (take (i + 1) ns)) u c
+number-more {u = u} ns i h p q n = put-as (spaced (take (i + 1) ns)) u (sym (spaced-more ns i h)) refl (put-then p (put-then q n))
 
 -- the parts of a line, put one behind the other
-pub line-printed : (n : ℕ) (name ns a b c d e : List ℕ) → a ≡ decimal n → b ≡ a ++ (32 ∷ []) → c ≡ b ++ name → d ≡ c ++ spaced ns → e ≡ d ++ (10 ∷ []) → e ≡ printed n name ns
+pub line-printed : {d a b c e f : List ℕ} {at i j k l m : ℕ} (n : ℕ) (name ns : List ℕ) → Put d at (decimal n) i a → Put a i (32 ∷ []) j b → Put b j name k c → Put c k (spaced ns) l e → Put e l (10 ∷ []) m f → Put d at (printed n name ns) m f
 unfolding printed
-line-printed n name ns a b c d e ea eb ec ed ee = rw (ee, ed, ec, eb, ea) (simp append-assoc)
+line-printed n name ns pn ps pt pr pe = put-then pn (put-then (put-then ps pt) (put-then pr pe))
 
--- the line of an entry, from what the entry is
-pub line-of : (n : ℕ) (l m : Line) (t : List ℕ) → l ≡ m → t ≡ lineText n m → t ≡ lineText n l
-line-of n l m t e h = h ∙ ap (lineText n) (sym e)
+-- a line is put where there is room for the longest, from what the entry is
+pub line-put : (n : ℕ) (l m : Line) (d a : List ℕ) (at r : ℕ) → at + longestLine ≤ length d → length a ≡ length d → l ≡ m → r ≤ at + longestLine → Put d at (lineText n m) r a → Appends d at (lineText n l) r a
+line-put n l m d a at r h s e k p = record {
+  same-length = s;
+  room = λ _. (k, put-as (lineText n l) r (ap (lineText n) (sym e)) refl p);
+  none = λ f. absurd (f h);
+}
+
+-- where there is no room for the longest line nothing is put
+pub line-none : (t d : List ℕ) (at : ℕ) → length d < at + longestLine → Appends d at t at d
+line-none t d at h = record {
+  same-length = refl;
+  room = λ f. absurd (omega arith);
+  none = λ _. (refl, refl);
+}

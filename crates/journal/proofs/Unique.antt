@@ -1,7 +1,9 @@
--- An entry has one line and leaves one store; a step goes on at one index. Assumes nothing.
-use mathlib.Core.Path.{_≡_, sym, ap, _∙_}
-use mathlib.Core.List.{List}
-use Prim.Native.Nat.{ℕ}
+-- An entry has one line and leaves one store; a step goes on at one index; a printed line is one. Assumes nothing.
+use mathlib.Core.Path.{_≡_, sym, ap, ap₂, _∙_}
+use mathlib.Core.List.{List, _++_}
+use Prim.Native.Nat.{ℕ, _+_, _≤_}
+use native.Mathlib.Decide.{decLe}
+use lib.ListN.{length, take, drop, take-append-drop}
 use Rattle.sizes.specs.Six.{six}
 use Rattle.sizes.proofs.Six.{six-multiplies}
 use Rattle.model.specs.Calls.{Call, seed, acquire, release, report}
@@ -12,11 +14,12 @@ use Rattle.journal.specs.declared.Entry.{Entry}
 use Rattle.journal.specs.declared.Entry.the-variants.{Seed, Acquire, Release, Report, Bad, End}
 use Rattle.journal.specs.declared.Line.{Line}
 use Rattle.journal.specs.Entries.{readAt}
+use Rattle.journal.specs.Lines.{longestLine, Appends}
 use Rattle.journal.specs.Steps.{lineOf, Makes, Serves, Steps}
 
 module _ (s : Store) (h : Places six places poolLimit s) (l l' : Line) (t t' : Store) where
   -- a call that is made
-  makes-unique : (c : Call) → Makes s c l t → Makes s c l' t' → (l ≡ l') × (t ≡ t')
+  pub makes-unique : (c : Call) → Makes s c l t → Makes s c l' t' → (l ≡ l') × (t ≡ t')
   makes-unique c m m' =
       let e = unique six places poolLimit six-multiplies s c (m .reply) (m' .reply) (m .replies) (m' .replies) h in
       (m .prints ∙ ap (lineOf c) e ∙ sym (m' .prints), m .leaves ∙ ap (λ (r : Reply). r .store) e ∙ sym (m' .leaves))
@@ -33,3 +36,17 @@ module _ (s : Store) (h : Places six places poolLimit s) (l l' : Line) (t t' : S
   -- ... OR A STEP'S
   pub steps-unique : (j : List ℕ) (at n n' : ℕ) → Steps s j at l t n → Steps s j at l' t' n' → ((l ≡ l') × (t ≡ t')) × (n ≡ n')
   steps-unique j at n n' m m' = (serves-unique (readAt j at .entry) (m .serves) (m' .serves), m .goes ∙ sym (m' .goes))
+
+-- ... OR THAT OF A LINE: every byte is told
+pub appends-unique : (b : List ℕ) (at : ℕ) (t : List ℕ) (r r' : ℕ) (a a' : List ℕ) → Appends b at t r a → Appends b at t r' a' → (r ≡ r') × (a ≡ a')
+appends-unique b at t r r' a a' x x' = go (decLe (at + longestLine) (length b))
+  where
+    go : Dec (at + longestLine ≤ length b) → (r ≡ r') × (a ≡ a')
+    go (no h) = (x .none h .0 ∙ sym (x' .none h .0), x .none h .1 ∙ sym (x' .none h .1))
+    go (yes h) =
+        let p = x .room h .1 in
+        let p' = x' .room h .1 in
+        let e : r ≡ r' = p .index ∙ sym (p' .index) in
+        let f : take r a ≡ take r a' = p .bytes ∙ sym (p' .bytes) ∙ ap (λ (i : ℕ). take i a') (sym e) in
+        let d : drop r a ≡ drop r a' = p .rest ∙ ap (λ (i : ℕ). drop i b) e ∙ sym (p' .rest) ∙ ap (λ (i : ℕ). drop i a') (sym e) in
+        (e, sym (take-append-drop r a) ∙ ap₂ (λ (y z : List ℕ). y ++ z) f d ∙ take-append-drop r a')

@@ -9,10 +9,6 @@ use Rattle.journal.specs.declared.Entry.{Entry}
 use Rattle.journal.specs.declared.Entry.the-variants.{Seed, Acquire, Release, Report, Bad, End}
 use Rattle.journal.specs.declared.Reading.{Reading}
 
--- an entry has at most so many bytes
-abbrev pub longest : ℕ
-longest = 17
-
 -- numbers are little-endian
 unfoldable pub number : List ℕ → ℕ
 number [] = 0
@@ -22,21 +18,31 @@ number (b ∷ s) = b + 256 * number s
 abbrev pub address : List ℕ → Address
 address s = record { 0 = number s }
 
+-- how many bytes the bodies have; a report has none
+abbrev pub seedBody : ℕ
+seedBody = 16
+
+abbrev pub acquireBody : ℕ
+acquireBody = 1
+
+abbrev pub releaseBody : ℕ
+releaseBody = 9
+
 -- a body of n bytes makes the entry; cut short it is refused with 13
 abbrev pub whole : (n : ℕ) → List ℕ → Entry → Entry
 whole n s e = cond (leb n (length s)) e (Bad 13)
 
 -- seed: start, end (8 bytes each)
 abbrev pub seedOf : List ℕ → Entry
-seedOf s = whole 16 s (Seed (address (take 8 s)) (address (take 8 (drop 8 s))))
+seedOf s = whole seedBody s (Seed (address (take 8 s)) (address (take 8 (drop 8 s))))
 
 -- acquire: code (1)
 abbrev pub acquireOf : List ℕ → Entry
-acquireOf s = whole 1 s (Acquire (number (take 1 s)))
+acquireOf s = whole acquireBody s (Acquire (number (take 1 s)))
 
 -- release: base (8), code (1)
 abbrev pub releaseOf : List ℕ → Entry
-releaseOf s = whole 9 s (Release (address (take 8 s)) (number (take 1 (drop 8 s))))
+releaseOf s = whole releaseBody s (Release (address (take 8 s)) (number (take 1 (drop 8 s))))
 
 -- the entry that begins the bytes: kind 1 seed, 2 acquire, 3 release, 4 report, whose body is none; an unknown kind is refused with 12
 unfoldable pub entryOf : List ℕ → Entry
@@ -45,9 +51,9 @@ entryOf (kind ∷ s) = cond (eqb kind 1) (seedOf s) (cond (eqb kind 2) (acquireO
 
 -- the index behind an entry whose body starts at one, in a journal of n bytes: behind what is no entry nothing is left
 abbrev pub behind : Entry → (body n : ℕ) → ℕ
-behind (Seed a e) b n = b + 16
-behind (Acquire c) b n = b + 1
-behind (Release a c) b n = b + 9
+behind (Seed a e) b n = b + seedBody
+behind (Acquire c) b n = b + acquireBody
+behind (Release a c) b n = b + releaseBody
 behind Report b n = b
 behind (Bad k) b n = n
 behind End b n = n

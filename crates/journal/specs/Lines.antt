@@ -1,8 +1,10 @@
 -- The printed lines (document 01, 'Journal'), as bytes in ASCII.
+use mathlib.Core.Path.{_≡_}
 use mathlib.Core.Bool.{cond}
 use mathlib.Core.List.{List, [], _∷_, _++_}
-use Prim.Native.Nat.{ℕ, zero, suc, _/_}
+use Prim.Native.Nat.{ℕ, zero, suc, _+_, _/_, _≤_}
 use lib.Dec.{ltb}
+use lib.ListN.{length, take, drop}
 use Rattle.io.specs.Digits.{digits}
 use Rattle.journal.specs.declared.Line.{Line}
 use Rattle.journal.specs.declared.Line.the-variants.{Seed, Acquire, Release, Report, Bad, End}
@@ -49,3 +51,19 @@ lineText n (Release r) = printed n releaseName (r ∷ [])
 lineText n (Report r a f l u) = printed n reportName (r ∷ a ∷ f ∷ l ∷ u ∷ [])
 lineText n (Bad r) = printed n badName (r ∷ [])
 lineText n End = []
+
+-- how many bytes a line has at most: a report's number of 20 digits, space, name and line end, then five numbers of 20 digits, a space before each
+abbrev pub longestLine : ℕ
+longestLine = 133
+
+-- a text is put behind the first `at` bytes, and r is the index behind it: the bytes before and behind it stay
+pub record Put (before : List ℕ) (at : ℕ) (text : List ℕ) (r : ℕ) (after : List ℕ) : Type 0 where
+  pub index : r ≡ at + length text
+  pub bytes : take r after ≡ take at before ++ text
+  pub rest : drop r after ≡ drop r before
+
+-- THE PROMISE OF A LINE: its text is put behind the first `at` bytes, if there is room for the longest line; if there is none nothing changes
+pub record Appends (before : List ℕ) (at : ℕ) (text : List ℕ) (r : ℕ) (after : List ℕ) : Type 0 where
+  pub same-length : length after ≡ length before
+  pub room : at + longestLine ≤ length before → (r ≤ at + longestLine) × Put before at text r after
+  pub none : (at + longestLine ≤ length before → ⊥) → (r ≡ at) × (after ≡ before)

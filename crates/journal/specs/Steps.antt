@@ -40,9 +40,14 @@ asked Report = call report
 asked (Bad n) = none (BadLine n)
 asked End = none NoLine
 
--- THE PROMISE OF AN ENTRY: the call it asks for is made; where it asks for none, the store stays
+-- a call is made; where none is asked for, the line says so and the store stays
+abbrev pub Does : Store → Asked → Line → Store → Type 0
+Does s (call c) line t = Makes s c line t
+Does s (none l) line t = (line ≡ l) × (t ≡ s)
+
+-- THE PROMISE OF AN ENTRY: what it asks for is done
 abbrev pub Serves : Store → Entry → Line → Store → Type 0
-Serves s e line t = elim (asked e) [ call c ↦ Makes s c line t | none l ↦ (line ≡ l) × (t ≡ s) ]
+Serves s e line t = Does s (asked e) line t
 
 -- THE PROMISE OF A STEP: the entry at an index of the journal is served, and the next index is behind it
 pub record Steps (s : Store) (journal : List ℕ) (at : ℕ) (line : Line) (t : Store) (next : ℕ) : Type 0 where

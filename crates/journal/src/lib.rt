@@ -10,7 +10,7 @@ ghost use Prim.Native.Nat.{_+_, _≤_, _<_};
 ghost use lib.ListN.{length, take, drop};
 ghost use Rattle.pages.specs.Calls.{store};
 ghost use Rattle.journal.specs.Steps.{Serves, Steps};
-ghost use Rattle.journal.specs.Entries.{longest as longestOf, number as numberOf, seedOf, acquireOf, releaseOf, reading, readAt, nothing};
+ghost use Rattle.journal.specs.Entries.{number as numberOf, seedOf, acquireOf, releaseOf, reading, readAt, nothing};
 
 // The kinds of entries.
 const SEED: u8 = 1;
@@ -21,12 +21,17 @@ const RELEASE: u8 = 3;
 
 const REPORT: u8 = 4;
 
+// How many bytes their bodies have; a report has none.
+const SEED_BODY: usize = 16;
+
+const ACQUIRE_BODY: usize = 1;
+
+const RELEASE_BODY: usize = 9;
+
 // The refusals of the journal: an unknown kind, a body cut short.
 const UNKNOWN_KIND: u32 = 12;
 
-const CUT_SHORT: u32 = 13;
-
-const LONGEST: usize = 17;
+pub const CUT_SHORT: u32 = 13;
 
 // An entry: a call with its numbers, the refusal of bytes that are none, or nothing left.
 pub enum Entry {
@@ -67,13 +72,6 @@ pub struct Served {
     pub line: Line,
 }
 
-// How many bytes an entry has at most: whatever follows so many, the entry that begins them is the same.
-pub fn longest() -> usize
-    ensures { λ r. ⌜ r ≡ longestOf ⌝ }
-{
-    LONGEST
-}
-
 // A byte as a number.
 fn wide(x: u8) -> u64
     ensures { λ r. ⌜ (r ≡ x) × (r < 256) ⌝ }
@@ -110,7 +108,7 @@ fn read_seed(journal: &[u8], body: usize) -> Reading
     ensures { λ r. ⌜ r ≡ reading (seedOf (drop body (now (journal .entry)))) body (length (now (journal .entry))) ⌝ }
 {
     let bytes = journal.len();
-    if bytes - body < 16 {
+    if bytes - body < SEED_BODY {
         return no_entry(Entry::Bad(CUT_SHORT), bytes);
     }
     let second = body + 8;
@@ -118,7 +116,7 @@ fn read_seed(journal: &[u8], body: usize) -> Reading
     let end = Address(number(journal, second));
     Reading {
         entry: Entry::Seed(start, end),
-        next: body + 16,
+        next: body + SEED_BODY,
     }
 }
 
@@ -128,13 +126,13 @@ fn read_acquire(journal: &[u8], body: usize) -> Reading
     ensures { λ r. ⌜ r ≡ reading (acquireOf (drop body (now (journal .entry)))) body (length (now (journal .entry))) ⌝ }
 {
     let bytes = journal.len();
-    if bytes - body < 1 {
+    if bytes - body < ACQUIRE_BODY {
         return no_entry(Entry::Bad(CUT_SHORT), bytes);
     }
     let code = journal[body];
     Reading {
         entry: Entry::Acquire(code),
-        next: body + 1,
+        next: body + ACQUIRE_BODY,
     }
 }
 
@@ -144,7 +142,7 @@ fn read_release(journal: &[u8], body: usize) -> Reading
     ensures { λ r. ⌜ r ≡ reading (releaseOf (drop body (now (journal .entry)))) body (length (now (journal .entry))) ⌝ }
 {
     let bytes = journal.len();
-    if bytes - body < 9 {
+    if bytes - body < RELEASE_BODY {
         return no_entry(Entry::Bad(CUT_SHORT), bytes);
     }
     let last = body + 8;
@@ -152,7 +150,7 @@ fn read_release(journal: &[u8], body: usize) -> Reading
     let code = journal[last];
     Reading {
         entry: Entry::Release(base, code),
-        next: body + 9,
+        next: body + RELEASE_BODY,
     }
 }
 

@@ -36,42 +36,25 @@ fn read_behind(bytes: &mut [u8], to: usize) -> isize
     libc::read(STDIN_FILENO, &mut bytes[to..])
 }
 
-// What is read up to an index, where the last read answered so; a read that fails is told of.
-fn read_up_to(to: usize, got: isize) -> Filled
-    ensures { λ r. ⌜ r .to ≡ to ⌝ }
-{
-    if got < 0 {
-        os::fail(b"replay: standard input");
-    }
-    Filled {
-        to,
-        ended: got == 0,
-        failed: got < 0,
-    }
-}
-
-// Keeps what is left of the buffer, from an index up to another, and reads until the buffer is full or the input ends.
-pub fn refill(bytes: &mut [u8; BUFFER], from: usize, end: usize) -> Filled
-    ensures { λ r. ⌜ r .to ≤ 4096 ⌝ }
-{
-    let mut to = keep(bytes, from, end);
-    // A read that does not end the loop moves a byte at least.
-    for _ in 0..BUFFER {
-        if to >= BUFFER {
-            return read_up_to(to, 1);
-        }
-        let got = read_behind(bytes, to);
-        if got <= 0 {
-            return read_up_to(to, got);
-        }
-        to = to + least(io::count(got, bytes), BUFFER - to);
-    }
-    read_up_to(to, 1)
-}
-
 // The smaller of two numbers.
 fn least(a: usize, b: usize) -> usize
     ensures { λ r. ⌜ r ≤ b ⌝ }
 {
     if a < b { a } else { b }
+}
+
+// Keeps what is left of the buffer, from an index up to another, and reads once behind it. A read that fails is told of.
+pub fn refill(bytes: &mut [u8; BUFFER], from: usize, end: usize) -> Filled
+    ensures { λ r. ⌜ r .to ≤ 4096 ⌝ }
+{
+    let left = keep(bytes, from, end);
+    let got = read_behind(bytes, left);
+    if got < 0 {
+        os::fail(b"replay: standard input");
+    }
+    Filled {
+        to: left + least(io::count(got, bytes), BUFFER - left),
+        ended: got == 0,
+        failed: got < 0,
+    }
 }

@@ -3,6 +3,7 @@
 mod input;
 mod output;
 
+use journal::Entry;
 use journal::LINE;
 use journal::Line;
 use libc::STDOUT_FILENO;
@@ -26,12 +27,15 @@ struct Replay {
     over: bool,
 }
 
-// Whether an entry may be served: it stands whole in the bytes, or no more come.
-fn ready(bytes: usize, at: usize, last: bool) -> bool {
-    if at >= bytes {
-        return false;
+// Whether the entry at an index may be served: it is not cut short by the end of the bytes, or no more come.
+fn ready(bytes: &[u8], at: usize, last: bool) -> bool {
+    let reading = journal::read_entry(bytes, at);
+    let entry = reading.entry;
+    match entry {
+        Entry::End => false,
+        Entry::Bad(refusal) => last || refusal != journal::CUT_SHORT,
+        _ => true,
     }
-    last || bytes - at >= journal::longest()
 }
 
 // Whether a line ends the run.
@@ -44,7 +48,7 @@ fn ends(line: Line) -> bool {
 }
 
 // Prints a line behind what waits, which is written first where there is no room for another.
-fn print(replay: Replay, text: &mut [u8; BUFFER], line: &[u8; LINE], bytes: usize) -> Replay {
+fn print(replay: Replay, text: &mut [u8; BUFFER], line: Line) -> Replay {
     let mut next = replay;
     if BUFFER - LINE < replay.waiting {
         next.waiting = 0;
@@ -53,7 +57,7 @@ fn print(replay: Replay, text: &mut [u8; BUFFER], line: &[u8; LINE], bytes: usiz
             return next;
         }
     }
-    next.waiting = output::put(text, next.waiting, line, bytes);
+    next.waiting = journal::line_text(next.entries, line, text, next.waiting);
     next
 }
 
@@ -62,16 +66,14 @@ fn serve(replay: Replay, pool: &mut [u32], bytes: &[u8], text: &mut [u8; BUFFER]
     let step = journal::step(replay.state, pool, bytes, replay.at);
     let state = step.state;
     let line = step.line;
-    let mut next = Replay {
+    let next = Replay {
         state,
         entries: std::num::wrapping_add_u64(replay.entries, 1),
         at: step.next,
         waiting: replay.waiting,
         over: ends(line),
     };
-    let mut printed = [0u8; LINE];
-    let length = journal::line_text(next.entries, line, &mut printed);
-    print(next, text, &printed, length)
+    print(next, text, line)
 }
 
 // Serves the entries that stand whole in the bytes; all of them where no more come.
@@ -89,7 +91,7 @@ fn serve_all(
         if now.over {
             return now;
         }
-        if !ready(most, now.at, last) {
+        if !ready(bytes, now.at, last) {
             return now;
         }
         now = serve(now, pool, bytes, text);

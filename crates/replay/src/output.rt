@@ -1,6 +1,5 @@
 // Standard output, by a buffer.
 use crate::BUFFER;
-use journal::LINE;
 use libc::STDOUT_FILENO;
 ghost use Prim.Native.Nat.{_≤_};
 ghost use lib.ListN.{length};
@@ -27,24 +26,4 @@ pub fn flush(text: &[u8; BUFFER], full: usize) -> bool {
     }
     fail();
     false
-}
-
-// Puts a byte behind what waits in the buffer.
-fn put_byte(text: &mut [u8; BUFFER], full: usize, byte: u8) -> usize {
-    if full >= BUFFER {
-        return full;
-    }
-    text[full] = byte;
-    full + 1
-}
-
-// Puts the first bytes of a line behind what waits in the buffer, which has room for a line.
-pub fn put(text: &mut [u8; BUFFER], full: usize, line: &[u8; LINE], bytes: usize) -> usize {
-    let mut at = full;
-    for i in 0..LINE {
-        if i < bytes {
-            at = put_byte(text, at, line[i]);
-        }
-    }
-    at
 }

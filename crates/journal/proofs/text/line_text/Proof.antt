@@ -2,9 +2,18 @@
 use mathlib.Core.Path.{refl}
 use borrow.Author.Needs.{needs}
 use Rattle.journal.specs.Lines.{lineText}
-use Rattle.journal.proofs.Lines.{line-of}
+use Rattle.journal.proofs.Lines.{put-none, line-put, line-none}
 use Rattle.journal.proofs.text.line_text.Statement.{statement}
 use Rattle.journal.proofs.text.line_text.Tie as tie
+
+returns : tie.Need-returns
+returns c = line-none _ _ _ (search needs)
+
+sub-if2 : tie.Need-sub-if2
+sub-if2 c = search needs
+
+returns-2 : tie.Need-returns-2
+returns-2 c = line-none _ _ _ (search needs)
 
 enum-known-line : tie.Need-enum-known-line
 enum-known-line c = search needs
@@ -84,34 +93,52 @@ put-line-requires-5 c κs = search needs
 enum-told : tie.Need-enum-told
 enum-told c = search needs
 
-returns : tie.Need-returns
-unfolding lineText
-returns c = (c .put-line .ensures .0, line-of _ _ _ _ (c .before .before .before .before .before .line .given .1) (c .put-line .ensures .1))
-
-returns-2 : tie.Need-returns-2
-unfolding lineText
-returns-2 c = (c .put-line2 .ensures .0, line-of _ _ _ _ (c .before .before .before .before .before .line2 .given .1) (c .put-line2 .ensures .1))
+same-length : tie.Need-same-length
+same-length c = search needs
 
 returns-3 : tie.Need-returns-3
 unfolding lineText
-returns-3 c = (c .put-line3 .ensures .0, line-of _ _ _ _ (c .before .before .before .before .before .line3 .given .1) (c .put-line3 .ensures .1))
+returns-3 c = line-put _ _ _ _ _ _ _ (search needs) (search needs) (c .before .before .before .before .before .before .before .line .given .1) (search needs) (c .before .before .put-line .ensures .1)
+
+same-length-2 : tie.Need-same-length-2
+same-length-2 c = search needs
 
 returns-4 : tie.Need-returns-4
 unfolding lineText
-returns-4 c = (c .put-line4 .ensures .0, line-of _ _ _ _ (c .before .before .before .before .before .line4 .given .1) (c .put-line4 .ensures .1))
+returns-4 c = line-put _ _ _ _ _ _ _ (search needs) (search needs) (c .before .before .before .before .before .before .before .line2 .given .1) (search needs) (c .before .before .put-line2 .ensures .1)
+
+same-length-3 : tie.Need-same-length-3
+same-length-3 c = search needs
 
 returns-5 : tie.Need-returns-5
 unfolding lineText
-returns-5 c = (c .put-line5 .ensures .0, line-of _ _ _ _ (c .before .before .before .before .before .line5 .given .1) (c .put-line5 .ensures .1))
+returns-5 c = line-put _ _ _ _ _ _ _ (search needs) (search needs) (c .before .before .before .before .before .before .before .line3 .given .1) (search needs) (c .before .before .put-line3 .ensures .1)
+
+same-length-4 : tie.Need-same-length-4
+same-length-4 c = search needs
 
 returns-6 : tie.Need-returns-6
 unfolding lineText
-returns-6 c = ((search needs, refl), line-of _ _ _ _ (c .enum-told .given .1) refl)
+returns-6 c = line-put _ _ _ _ _ _ _ (search needs) (search needs) (c .before .before .before .before .before .before .before .line4 .given .1) (search needs) (c .before .before .put-line4 .ensures .1)
+
+same-length-5 : tie.Need-same-length-5
+same-length-5 c = search needs
+
+returns-7 : tie.Need-returns-7
+unfolding lineText
+returns-7 c = line-put _ _ _ _ _ _ _ (search needs) (search needs) (c .before .before .before .before .before .before .before .line5 .given .1) (search needs) (c .before .before .put-line5 .ensures .1)
+
+returns-8 : tie.Need-returns-8
+unfolding lineText
+returns-8 c = line-put _ _ _ _ _ _ _ (search needs) refl (c .enum-told .given .1) (search needs) (put-none _ _)
 
 pub line-text-spec : {M : Type 1} → statement M
 line-text-spec =
     tie.close
     (tie.spec
+    returns
+    sub-if2
+    returns-2
     enum-known-line
     cast-refused
     slice-aggregate-put-line
@@ -138,9 +165,14 @@ line-text-spec =
     slice-aggregate-put-line-10
     put-line-requires-5
     enum-told
-    returns
-    returns-2
+    same-length
     returns-3
+    same-length-2
     returns-4
+    same-length-3
     returns-5
-    returns-6)
+    same-length-4
+    returns-6
+    same-length-5
+    returns-7
+    returns-8)

@@ -1,11 +1,9 @@
 -- The fewest digits of a number are its decimal. Assumes nothing.
-use Prim.Native.Nat.{ℕ}
-use mathlib.Core.Path.{ap, _∙_}
-use mathlib.Core.List.{List, _++_}
+use mathlib.Core.Path.{refl}
 use native.Mathlib.Omega.{arith}
-use lib.ListN.{take}
 use borrow.Author.Needs.{needs}
-use Rattle.journal.proofs.Lines.{fewest-decimal, few-digits}
+use Rattle.journal.specs.Lines.{decimal}
+use Rattle.journal.proofs.Lines.{put-as, fewest-decimal, few-digits}
 use Rattle.journal.proofs.text.put_decimal.Statement.{statement}
 use Rattle.journal.proofs.text.put_decimal.Tie as tie
 
@@ -32,8 +30,8 @@ returns c =
     let a = c .before .before .before .before .before .before .before .before .args in
     let d = c .before .before .before .before .before .decimal in
     let p = c .before .before .put in (
-      omega (arith, p .ensures .0, d .ensures .0 .1, few-digits (a .number) (d .result) (omega arith) (d .ensures .1 .0)),
-      p .ensures .1 ∙ ap (λ (s : List ℕ). take (a .at) (a .out .now) ++ s) (fewest-decimal (a .number) (d .result) _ (omega arith) (d .ensures .1 .0) (d .ensures .1 .1)),
+      omega (arith, p .ensures .index, d .ensures .0 .1, few-digits (a .number) (d .result) (omega arith) (d .ensures .1 .0)),
+      put-as (decimal (a .number)) (p .result) (fewest-decimal (a .number) (d .result) _ (omega arith) (d .ensures .1 .0) (d .ensures .1 .1)) refl (p .ensures),
     )
 
 pub put-decimal-spec : {M : Type 1} → statement M

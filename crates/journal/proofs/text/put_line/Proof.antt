@@ -1,7 +1,6 @@
 -- The parts of a line, one behind the other. Assumes nothing.
-use lib.ListN.{take}
 use borrow.Author.Needs.{needs}
-use Rattle.journal.proofs.Lines.{counts, line-printed}
+use Rattle.journal.proofs.Lines.{line-printed}
 use Rattle.journal.proofs.text.put_line.Statement.{statement}
 use Rattle.journal.proofs.text.put_line.Tie as tie
 
@@ -31,13 +30,13 @@ same-length c = search needs
 
 returns : tie.Need-returns
 returns c = (
-  counts (c .before .before .put3 .result) (c .before .before .put3 .last .0) (search needs),
+  search needs,
   let a = c .before .before .before .before .before .before .before .before .before .before .before .before .before .before .before .before .before .before .before .before .before .before .before .before .before .args in
       let d = c .before .before .before .before .before .before .before .before .before .before .before .before .before .before .before .before .before .before .before .before .put-decimal in
       let s = c .before .before .before .before .before .before .before .before .before .before .before .before .before .before .before .put in
       let n = c .before .before .before .before .before .before .before .before .before .before .before .put2 in
       let r = c .before .before .before .before .before .before .before .put-numbers in
-      line-printed (a .number) (a .name .now) (a .numbers .now) (take (d .result) (d .last .0)) (take (s .result) (s .last .0)) (take (n .result) (n .last .0)) (take (r .result) (r .last .0)) _ (d .ensures .1) (s .ensures .1) (n .ensures .1) (r .ensures .1) (c .before .before .put3 .ensures .1),
+      line-printed (a .number) (a .name .now) (a .numbers .now) (d .ensures .1) (s .ensures) (n .ensures) (r .ensures .1) (c .before .before .put3 .ensures),
 )
 
 pub put-line-spec : {M : Type 1} → statement M

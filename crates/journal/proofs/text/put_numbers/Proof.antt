@@ -1,23 +1,22 @@
 -- Each number goes behind those before it. Assumes nothing.
 use Prim.Native.Nat.{_+_, _-_, _*_, _≤_}
 use mathlib.Core.Path.{_≡_, refl}
-use mathlib.Core.List.{_++_}
 use native.Mathlib.Omega.{arith}
 use lib.ListN.{length, take}
 use borrow.Author.Needs.{needs}
-use Rattle.journal.specs.Lines.{spaced}
+use Rattle.journal.specs.Lines.{spaced, Put}
 use Rattle.journal.proofs.Lines.{number-none, number-more, number-all}
 use Rattle.journal.proofs.text.put_numbers.Statement.{statement}
 use Rattle.journal.proofs.text.put_numbers.Tie as tie
 
 abbrev Inv-loop : tie.InvT-loop
-Inv-loop out₀ at numbers next₀ i₀ t6 out next i = (i ≤ length numbers) × (next ≤ at + 21 * i) × (length out ≡ length out₀) × (take next out ≡ take at out₀ ++ spaced (take i numbers))
+Inv-loop out₀ at numbers next₀ i₀ t6 out next i = (i ≤ length numbers) × (next ≤ at + 21 * i) × (length out ≡ length out₀) × Put out₀ at (spaced (take i numbers)) next out
 
 abbrev μ-loop : tie.MeasureT-loop
 μ-loop out₀ at numbers next₀ i₀ t6 out next i = length numbers - i
 
 loop-holds : tie.Need-loop-holds Inv-loop μ-loop
-loop-holds c = (search needs, search needs, refl, number-none _)
+loop-holds c = (search needs, search needs, refl, number-none _ _)
 
 slice-aggregate-put : tie.Need-slice-aggregate-put Inv-loop μ-loop
 slice-aggregate-put c = search needs
@@ -47,9 +46,9 @@ loop-again c =
     let p = c .before .before .before .before .before .before .before .put in
     let d = c .before .before .put-decimal in (
       search needs,
-      omega (arith, l .inv .1, p .ensures .0, d .ensures .0),
+      omega (arith, l .inv .1, p .ensures .index, d .ensures .0),
       search needs,
-      number-more (a .numbers .now) (take (a .at) (a .out .now)) (take (l .next) (l .out)) (take (p .result) (p .last .0)) _ (l .i) (search needs) (l .inv .3) (p .ensures .1) (d .ensures .1),
+      number-more (a .numbers .now) (l .i) (search needs) (l .inv .3) (p .ensures) (d .ensures .1),
     )
 
 same-length : tie.Need-same-length Inv-loop μ-loop
@@ -59,7 +58,7 @@ returns : tie.Need-returns Inv-loop μ-loop
 returns c =
     let a = c .before .before .before .before .args in
     let l = c .before .loop in
-    (search needs, number-all (a .numbers .now) (take (a .at) (a .out .now)) _ (l .i) (search needs) (l .inv .3))
+    (search needs, number-all (a .numbers .now) (l .i) (search needs) (l .inv .3))
 
 pub put-numbers-spec : {M : Type 1} → statement M
 put-numbers-spec =
