@@ -33,7 +33,7 @@ const UNKNOWN_KIND: u32 = 12;
 
 pub const CUT_SHORT: u32 = 13;
 
-// An entry: a call with its numbers, the refusal of bytes that are none, or nothing left.
+// An entry: a call with its numbers (start and end; code; base and code), the refusal of bytes that are none, or nothing left.
 pub enum Entry {
     Seed(Address, Address),
     Acquire(u8),
@@ -49,7 +49,7 @@ pub struct Reading {
     pub next: usize,
 }
 
-// The numbers of an entry's line: the refusal, then the results.
+// The numbers of an entry's line: the refusal, then the results (base and probes; seeded bytes, free bytes, largest and used words).
 pub enum Line {
     Seed(u32),
     Acquire(u32, Address, usize),
