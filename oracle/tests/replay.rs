@@ -46,6 +46,7 @@ fn failure(output: &Output) -> String {
 }
 
 #[test]
+#[ignore = "the test command does it, with the proved program"]
 fn a_right_program_passes() {
     let output = run(ORACLE, &["replay", STAND_IN, "600", "2"], &folder("right"), RIGHT);
     let text = String::from_utf8_lossy(&output.stdout).into_owned();
@@ -174,6 +175,7 @@ fn written_sample(name: &str) -> PathBuf {
 }
 
 #[test]
+#[ignore = "the test command does it"]
 fn the_command_writes_the_sample() {
     let folder = folder("sample");
     let output = run(ORACLE, &["sample", "new/made"], &folder, "");
