@@ -7,7 +7,7 @@ use dice::Dice;
 use ledger::{Ledger, Page};
 use std::collections::VecDeque;
 
-pub(crate) mod dice;
+pub mod dice;
 mod ledger;
 mod plans;
 pub(crate) mod room;

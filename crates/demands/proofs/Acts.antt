@@ -62,7 +62,7 @@ module _ (L : Ladder) (most limit : ℕ) where
 
   module _ (m : MultipliesUp L) (small : suc (top L) < 8) where
     -- the frames of whole pages are as many
-    page-frames : (n : ℕ) → addressFrame L (n * bytes L smallest) ≡ n
+    pub page-frames : (n : ℕ) → addressFrame L (n * bytes L smallest) ≡ n
     unfolding addressFrame
     page-frames n = mul-div-cancel n (m .page)
 

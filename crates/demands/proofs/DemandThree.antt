@@ -81,7 +81,7 @@ module _ (L : Ladder) (most limit : ℕ) where
   report-is s h = rw (le-ltb (length (s .pool)) (s .state .used) (h .high))
 
   -- a seed that is answered has the number 0
-  stored-none : (a e : ℕ) (r : Reply) → answerOf L most limit (seed a e) r ≡ stored → r .refusal ≡ 0
+  pub stored-none : (a e : ℕ) (r : Reply) → answerOf L most limit (seed a e) r ≡ stored → r .refusal ≡ 0
   stored-none a e r q = go (r .refusal) q
     where
       go : (n : ℕ) → elim n [ zero ↦ stored | suc i ↦ refused (suc i) ] ≡ stored → n ≡ 0
@@ -120,7 +120,7 @@ module _ (L : Ladder) (most limit : ℕ) (m : MultipliesUp L) (small : suc (top 
               rw (f .answer e) (split-same L most (shown L most limit (r .store)) (o .state) (reckon L (inFrames L most limit c) (o .answer) h) (f .leaves e) asked-split)
 
       -- a call keeps it
-      keeps-next : Keeps L most limit (r .store) (reckon L (inFrames L most limit c) (answerOf L most limit c r) h)
+      pub keeps-next : Keeps L most limit (r .store) (reckon L (inFrames L most limit c) (answerOf L most limit c r) h)
       keeps-next =
           let v = served-leaves L most limit m small s c (k .places) (k .sound) in
           let x = ap (λ (z : Reply). z .store) (sym (q .sound (k .sound))) in
@@ -163,7 +163,7 @@ module _ (L : Ladder) (most limit : ℕ) (m : MultipliesUp L) (small : suc (top 
         split = split-same L most (shown L most limit (rooted L most limit p)) (treeShown L (freshTree L)) (λ f. false) (rooted-same p (b .0)) nothing-split;
       })
 
-  fresh-regions : (p : List ℕ) → freshReply L most limit p .refusal ≡ 0 → shown L most limit (freshReply L most limit p .store) .regions ≡ []
+  pub fresh-regions : (p : List ℕ) → freshReply L most limit p .refusal ≡ 0 → shown L most limit (freshReply L most limit p .store) .regions ≡ []
   fresh-regions p e = let b = fresh-fits L most limit p e in rw (fresh-is L most limit p (b .0) (b .1)) (rooted-same p (b .0) .regions)
 
   -- ---- what is kept says

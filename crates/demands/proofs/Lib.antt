@@ -6,6 +6,8 @@ pub mod Rooted
 pub mod DemandOne
 pub mod DemandTwo
 pub mod DemandThree
+pub mod Room
+pub mod RoomExact
 pub mod AsOriginal
 pub mod Demands
 pub mod TreeLines

@@ -51,7 +51,7 @@ frame-never L g report k q = never cc
 -- a step of the tree store, by what the frame store says of the call
 module _ (L : Ladder) (most n : ℕ) (t : TreeState L) (g : Frames) (c : Call) (h : AsFrames L most n t g c) where
   -- refused by the frames, it is refused alike
-  step-refused : (k : ℕ) → verdict (frameRefusals L most g c) ≡ suc k → (step L most n t c .answer ≡ refused (suc k)) × (step L most n t c .state ≡ t)
+  pub step-refused : (k : ℕ) → verdict (frameRefusals L most g c) ≡ suc k → (step L most n t c .answer ≡ refused (suc k)) × (step L most n t c .state ≡ t)
   unfolding frameStep
   step-refused k v = let a : step L most n t c .answer ≡ refused (suc k) = h .answer (λ q. absurd (omega (arith, v, h .nine .0 q .0))) ∙ rw v in (a, h .refusal (suc k) a)
 
@@ -60,7 +60,7 @@ module _ (L : Ladder) (most n : ℕ) (t : TreeState L) (g : Frames) (c : Call) (
   step-nine v l = let a = h .nine .1 (v, l) in (a, h .refusal 9 a)
 
   -- accepted by the frames with room, it is the act
-  step-acts : verdict (frameRefusals L most g c) ≡ 0 → used L (act L t c .state .tree) ≤ n → step L most n t c ≡ act L t c
+  pub step-acts : verdict (frameRefusals L most g c) ≡ 0 → used L (act L t c .state .tree) ≤ n → step L most n t c ≡ act L t c
   unfolding step frameStep
   step-acts v l = go (verdict (tests L most n t c)) refl (h .answer (λ q. absurd (omega (arith, l, h .nine .0 q .1))) ∙ rw v)
     where

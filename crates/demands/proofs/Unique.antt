@@ -13,9 +13,11 @@ use Rattle.model.specs.Ladder.{top}
 use Rattle.model.specs.Calls.{Call, seed, acquire, release, report}
 use Rattle.pool.specs.Words.{fanOutOf, framesOf}
 use Rattle.pool.specs.Check.{passes, sweep, walk}
-use Rattle.pool.specs.Regions.{regionsOf}
+use Rattle.pool.specs.Regions.{Regions, regionsOf}
 use Rattle.pool.specs.RegionTest.{regionsPass}
 use Rattle.pages.specs.Calls.{Store, Reply, plain, Places, SoundStore, served, Replies, freshReply}
+use Rattle.pages.specs.Room.{Plans}
+use Rattle.pages.specs.declared.State.{State}
 use Rattle.pages.proofs.Decide.{Checked, check-sound, sound-check}
 
 -- what the check asks is decided, clause by clause
@@ -73,3 +75,18 @@ module _ (L : Ladder) (most limit : ℕ) (m : MultipliesUp L) where
   check-unique s true y q q' = sym (q' .1 (q .0 refl))
   check-unique s false true q q' = q .1 (q' .0 refl)
   check-unique s false false q q' = refl
+
+-- ROOM_FOR HAS ONE ANSWER: its numbers cannot differ, whether the regions are sound or not
+module _ (L : Ladder) (most limit : ℕ) where
+  pub plans-unique : (s : State) (a e n n' w w' : ℕ) → Plans L most limit s a e n w → Plans L most limit s a e n' w' → (n ≡ n') × (w ≡ w')
+  plans-unique s a e n n' w w' q q' = (
+    go n n' (λ h. q .sound h .0 ∙ sym (q' .sound h .0)) (λ k. q .unsound k .0 ∙ sym (q' .unsound k .0)),
+    go w w' (λ h. q .sound h .1 ∙ sym (q' .sound h .1)) (λ k. q .unsound k .1 ∙ sym (q' .unsound k .1)),
+  )
+    where
+      go : (x y : ℕ) → (Regions L most (s .starts) (s .ends) → x ≡ y) → ((Regions L most (s .starts) (s .ends) → ⊥) → x ≡ y) → x ≡ y
+      go x y h k = cases (ℕ-discrete x y)
+        where
+          cases : Dec (x ≡ y) → x ≡ y
+          cases (yes z) = z
+          cases (no z) = absurd (z (k (λ r. z (h r))))

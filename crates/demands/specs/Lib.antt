@@ -1,2 +1,3 @@
 pub mod Demands
+pub mod Room
 pub mod Fences

@@ -94,7 +94,7 @@ module _ (L : Ladder) (g : ℕ → Bool) (d : ℕ) (deep : d ≤ top L) where
   lowestFree-first = firstBelow-first (λ i. whole g (i * frames L d) (frames L d)) (blocks L (suc d))
 
   -- the blocks of the code fill memory
-  blocks-memory : blocks L (suc d) * frames L d ≡ memory L
+  pub blocks-memory : blocks L (suc d) * frames L d ≡ memory L
   blocks-memory = omega (arith, div-add-mod' (memory L) (frames L d), frames-mod L d (top L) deep)
 
   -- where some aligned block is wholly in g, `lowestFree` is a block's number, and its block is no higher

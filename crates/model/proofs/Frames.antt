@@ -132,7 +132,7 @@ unfolding count
 count-add g h k zero e = omega arith
 count-add g h k (suc n) e = omega (arith, e n (omega arith), count-add g h k n (λ f l. e f (omega arith)))
 
-count-le : (g : ℕ → Bool) (n : ℕ) → count g n ≤ n
+pub count-le : (g : ℕ → Bool) (n : ℕ) → count g n ≤ n
 unfolding count
 count-le g zero = omega arith
 count-le g (suc n) = omega (arith, bit-le (g n), count-le g n)

@@ -14,6 +14,9 @@ pub mod SeedWords
 pub mod Descent
 pub mod Probes
 pub mod FrameStore
+pub mod Room
+pub mod RoomExact
+pub mod Touched
 pub mod Laws
 pub mod Demand2
 pub mod Verdict

@@ -81,7 +81,7 @@ overlap-count b r l (suc s) = go (decLt (b + s) (r .start)) (decLt (b + s) (r .e
     go (no x) (no y) ih = omega (arith, ap bit (within-above (r .start) w (b + s) (omega arith)))
 
 -- ... and in all of them
-covered-count : (N b s : ℕ) (rs : List Region) → Regions N rs → count (λ j. seeded rs (b + j)) s ≡ sum (overlap b s) rs
+pub covered-count : (N b s : ℕ) (rs : List Region) → Regions N rs → count (λ j. seeded rs (b + j)) s ≡ sum (overlap b s) rs
 unfolding seeded sum
 covered-count N b s [] k = omega (arith, count-all (λ j. seeded [] (b + j)) false s (λ f. refl))
 covered-count N b s (r ∷ rs) k =

@@ -5,6 +5,7 @@ pub mod FrameStore
 pub mod Lists
 pub mod Tree
 pub mod TreeStore
+pub mod Room
 pub mod Laws
 pub mod Runs
 pub mod Demands

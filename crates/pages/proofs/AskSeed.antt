@@ -1,14 +1,13 @@
 -- What a seed asks of its parts and gets from them, at the code's own numbers. Assumes nothing of the six sizes; of another ladder, at most 7 codes whose sizes multiply up.
 use mathlib.Core.Bool.{Bool, true, false, true≢false}
 use mathlib.Core.List.{List}
-use mathlib.Core.Logic.{inl, inr}
 use mathlib.Core.Path.{_≡_, refl, sym, ap, ap₂, _∙_}
-use Prim.Native.Nat.{ℕ, zero, suc, pred, _+_, _-_, _%_, _≤_, _<_}
-use native.Mathlib.Decide.{decLt, ℕ-discrete}
+use Prim.Native.Nat.{ℕ, zero, suc, pred, _+_, _-_, _≤_, _<_}
+use native.Mathlib.Decide.{decLt}
 use native.Mathlib.Omega.{arith}
 use lib.Dec.{eqb}
 use lib.ListN.{length, set}
-use Rattle.sizes.specs.Ladder.{Ladder, smallest, largest, bytes, addressFrame}
+use Rattle.sizes.specs.Ladder.{Ladder, largest, bytes, addressFrame}
 use Rattle.sizes.specs.Laws.{MultipliesUp}
 use Rattle.sizes.specs.Six.{six, mostCode}
 use Rattle.sizes.proofs.Six.{six-multiplies, largest-most}
@@ -35,7 +34,9 @@ use Rattle.pool.proofs.With.{newest-length}
 use Rattle.pages.specs.Calls.{Store, store, plain, settle, SoundStore, refusalOf, acted, served, wordsOf, Places}
 use Rattle.pages.proofs.Statements.{Covered}
 use Rattle.pages.proofs.SoundView.{sound-laws}
-use Rattle.pages.proofs.Refusals.{Spans, seed-2, seed-3, seed-4, seed-5, seed-9}
+use Rattle.pages.specs.Room.{regionRefusal}
+use Rattle.pages.proofs.SeedTests.{Spans, seed-front, passing, Joins, joins}
+use Rattle.pages.proofs.Refusals.{seed-9}
 
 -- ---- the stores of a seed, one after the other
 module _ (p : List ℕ) (u a e root code : ℕ) (s : SpanAsk p u a e) (l : a < e) (r : root ≡ largest six) (c : code ≡ suc (largestFit six (top six) a e)) where
@@ -81,38 +82,20 @@ module _ (L : Ladder) (most limit : ℕ) (m : MultipliesUp L) (small : suc (top 
     pub alone : apart (addressFrame L x) (addressFrame L y) before ≡ true
     pub room : s .state .used + seedOpeningsW L (addressFrame L y - addressFrame L x) (s .pool) (addressFrame L x) (addressFrame L y) ≤ length (s .pool)
 
-  -- every refusal number of a seed is the law's, so without one each test has passed
+  -- without a refusal the addresses and the regions have passed, and so has the room
   pub accepted : (x y : ℕ) → refusalOf L most limit s (seed x y) ≡ 0 → Accepted x y
-  accepted x y z = record { spans = spans; few = few; alone = clear (apart (addressFrame L x) (addressFrame L y) before) refl; room = room }
+  accepted x y z = record { spans = j .spans; few = j .few; alone = j .alone; room = room }
     where
-      none : (n : ℕ) → refusalOf L most limit s (seed x y) ≡ suc n → ⊥
-      none n e = omega (arith, z, e)
+      none : (n : ℕ) → regionRefusal L most limit (s .state) x y ≡ n → regionRefusal L most limit (s .state) x y ≡ 0
+      none zero e = e
+      none (suc n) e = absurd (omega (arith, z, seed-front L most limit s x y n e))
 
-      start : x % bytes L smallest ≡ 0
-      start = elim (ℕ-discrete (x % bytes L smallest) 0) [ yes k ↦ k | no k ↦ absurd (none 1 (seed-2 L most limit m small s a h x y (inl k))) ]
-
-      end : y % bytes L smallest ≡ 0
-      end = elim (ℕ-discrete (y % bytes L smallest) 0) [ yes k ↦ k | no k ↦ absurd (none 1 (seed-2 L most limit m small s a h x y (inr (inl k)))) ]
-
-      some : x < y
-      some = elim (decLt x y) [ yes k ↦ k | no k ↦ absurd (none 1 (seed-2 L most limit m small s a h x y (inr (inr (omega arith))))) ]
-
-      spans : Spans L x y
-      spans = elim (decLt (bytes L (largest L)) y) [
-        | yes k ↦ absurd (none 2 (seed-3 L most limit m small s a h x y start end some k))
-        | no k ↦ record { start = start; end = end; some = some; within = omega arith }
-      ]
-
-      few : length before < most
-      few = elim (decLt (length before) most) [ yes k ↦ k | no k ↦ absurd (none 4 (seed-5 L most limit m small s a h x y spans (omega arith))) ]
-
-      clear : (v : Bool) → apart (addressFrame L x) (addressFrame L y) before ≡ v → apart (addressFrame L x) (addressFrame L y) before ≡ true
-      clear true e = e
-      clear false e = absurd (none 3 (seed-4 L most limit m small s a h x y spans few e))
+      j : Joins L most limit m (s .state) (passing L most limit m s a h) x y
+      j = joins L most limit m (s .state) (passing L most limit m s a h) x y (none (regionRefusal L most limit (s .state) x y) refl)
 
       room : s .state .used + seedOpeningsW L (addressFrame L y - addressFrame L x) (s .pool) (addressFrame L x) (addressFrame L y) ≤ length (s .pool)
       room = elim (decLt (length (s .pool)) (s .state .used + seedOpeningsW L (addressFrame L y - addressFrame L x) (s .pool) (addressFrame L x) (addressFrame L y))) [
-        | yes k ↦ absurd (none 8 (seed-9 L most limit m small s a h x y spans few (clear (apart (addressFrame L x) (addressFrame L y) before) refl) k))
+        | yes k ↦ absurd (omega (arith, z, seed-9 L most limit m small s a h x y (j .spans) (j .few) (j .alone) k))
         | no k ↦ omega arith
       ]
 

@@ -9,6 +9,9 @@ pub mod SoundView
 pub mod Apart
 pub mod Laws
 pub mod Shown
+pub mod Touched
+pub mod SeedTests
 pub mod Refusals
+pub mod Plans
 pub mod AskSeed
 pub mod AskCall

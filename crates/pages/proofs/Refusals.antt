@@ -1,14 +1,14 @@
 -- The refusal number of each call on a sound store by what the code reads: sums over regions, the root's max, the words on the way to a block. Assumes a ladder of at most 7 codes whose sizes multiply up.
-use mathlib.Core.Path.{_≡_, refl, sym, ap, _∙_}
+use mathlib.Core.Path.{_≡_, sym, ap, _∙_}
 use mathlib.Core.Logic.{_⊎_, inl, inr, _≢_}
-use mathlib.Core.Bool.{Bool, true, false, not}
+use mathlib.Core.Bool.{true, false, not}
 use mathlib.Core.List.{List, [], _∷_}
 use Prim.Native.Nat.{ℕ, zero, suc, pred, _+_, _-_, _%_, _≤_, _<_}
 use native.Mathlib.Omega.{arith}
 use native.Mathlib.Nat.{mul-le-mul-right}
-use lib.Dec.{leb, ltb, eqb}
+use lib.Dec.{leb, ltb}
 use lib.ListN.{length}
-use borrow.Author.Tests.{lt-ltb, le-ltb, le-leb, lt-leb, eqb-true, eq-eqb, ne-eqb}
+use borrow.Author.Tests.{lt-ltb, le-ltb, lt-leb, eq-eqb, ne-eqb}
 use Rattle.sizes.specs.Ladder.{Ladder, smallest, largest, bytes, addressFrame}
 use Rattle.sizes.specs.Laws.{MultipliesUp, IsCode, Fits}
 use Rattle.sizes.proofs.Ladder.{aligned-below}
@@ -21,7 +21,7 @@ use Rattle.model.specs.Laws.{BlockIn}
 use Rattle.model.specs.Tree.{free}
 use Rattle.model.specs.Tree.{largest as largestIn}
 use Rattle.model.specs.TreeStore.{apart, covered}
-use Rattle.model.proofs.Demand2.{unseeded-free, offered, same-apart, same-covered, same-free}
+use Rattle.model.proofs.Demand2.{unseeded-free, offered, same-covered, same-free}
 use Rattle.model.proofs.Free.{frames-le, largest-le}
 use Rattle.model.proofs.FrameStore.{same-order}
 use Rattle.model.proofs.Ladder.{bytes-is, frames-pos, largest-top}
@@ -34,12 +34,13 @@ use Rattle.pool.specs.Regions.{regionsOf, newest}
 use Rattle.pool.specs.View.{view}
 use Rattle.pool.proofs.Full.{store-lacks, take-lacks, seed-lacks}
 use Rattle.pool.proofs.Kept.{soundW-largest}
-use Rattle.pool.proofs.Regions.{InFrames, in-frames, frame-bytes, all-bytes}
+use Rattle.pool.proofs.Regions.{frame-bytes, all-bytes}
 use Rattle.pool.proofs.With.{newest-length, newest-apart, newest-covered}
 use Rattle.pages.specs.Calls.{Store, Places, treeOf, SoundStore, shown, refusals, lacksRoom, acted, refusalOf}
 use Rattle.pages.specs.Frames.{isFree}
 use Rattle.pages.proofs.Decide.{sound-words}
 use Rattle.pages.proofs.Laws.{pool-laws}
+use Rattle.pages.proofs.SeedTests.{Spans, spans-frames, passing, test-4}
 use Rattle.pages.proofs.Shown.{sound-state, shown-same}
 
 module _ (L : Ladder) where
@@ -49,13 +50,6 @@ module _ (L : Ladder) where
     pub high : c ≤ largest L
     pub aligned : b % bytes L c ≡ 0
     pub within : b ≤ bytes L (largest L) - bytes L c
-
-  -- a seed names whole pages of memory
-  pub record Spans (a e : ℕ) : Type 0 where
-    pub start : a % bytes L smallest ≡ 0
-    pub end : e % bytes L smallest ≡ 0
-    pub some : a < e
-    pub within : e ≤ bytes L (largest L)
 
 module _ (L : Ladder) (most limit : ℕ) (m : MultipliesUp L) (small : suc (top L) < 8) (s : Store) (a : Places L most limit s) (h : SoundStore L most limit s) where
   -- the words of the pool
@@ -207,14 +201,6 @@ module _ (L : Ladder) (most limit : ℕ) (m : MultipliesUp L) (small : suc (top 
   release-0 b c n e f l = release-tests b c n ∙ rw (e, f, le-ltb (length p) (u + openingsW L (top L) (pred c) p 0 (addressFrame L b)) l)
 
   -- ---- seed
-  -- the pages that a seed names are frames of memory
-  spans-frames : (x y : ℕ) → Spans L x y → InFrames L m x y
-  spans-frames x y n = in-frames L m x y (record { start-aligned = n .start; end-aligned = n .end; some = n .some; within = n .within })
-
-  -- test 4 by the regions' ends
-  test-4 : (f k : ℕ) → f < k → bare (seeded (newest L (s .state .starts) (s .state .ends))) f (k - f) ≡ apart f k regions
-  test-4 f k l = sym (same-apart L most (length p) (treeOf L most limit s) (shown L most limit s) state same f k l) ∙ newest-apart f k regions
-
   -- no frame is free that shares no region
   apart-held : (f k : ℕ) → f < k → k ≤ frames L (top L) → apart f k regions ≡ true → Wholly (free L (top L) (view L (top L) (word p) 0)) f (k - f) false
   apart-held f k l o e = unseeded-free L most (length p) (treeOf L most limit s) state f (k - f) (omega arith)
@@ -230,7 +216,7 @@ module _ (L : Ladder) (most limit : ℕ) (m : MultipliesUp L) (small : suc (top 
     lt-leb y x (n .some),
     le-ltb (bytes L (largest L)) y (n .within),
     newest-length regions,
-    test-4 (addressFrame L x) (addressFrame L y) (spans-frames x y n .some),
+    test-4 L most limit m (s .state) (passing L most limit m s a h) (addressFrame L x) (addressFrame L y) (spans-frames L m x y n .some),
   )
 
   -- ... of which the regions pass, where test 9 reads the words to be opened
@@ -238,35 +224,9 @@ module _ (L : Ladder) (most limit : ℕ) (m : MultipliesUp L) (small : suc (top 
       → refusalOf L most limit s (seed x y) ≡ verdict (refuse 9 (ltb (length p) (u + seedOpeningsW L (addressFrame L y - addressFrame L x) p (addressFrame L x) (addressFrame L y))) ∷ [])
   unfolding lacksRoom acted
   seed-room x y n l e =
-      let k = spans-frames x y n in
+      let k = spans-frames L m x y n in
       let i : addressFrame L x ≤ addressFrame L y = omega (arith, k .some) in
       seed-tests x y n ∙ rw (lt-leb most (length regions) l, e, seed-lacks L p u (addressFrame L x) (addressFrame L y) small words i (k .within) (apart-held (addressFrame L x) (addressFrame L y) (k .some) (k .within) e))
-
-  -- 2: no whole pages, or none
-  pub seed-2 : (x y : ℕ) → (x % bytes L smallest ≢ 0) ⊎ ((y % bytes L smallest ≢ 0) ⊎ (y ≤ x)) → refusalOf L most limit s (seed x y) ≡ 2
-  unfolding refusalOf refusals
-  seed-2 x y z = go (eqb (x % bytes L smallest) 0) (eqb (y % bytes L smallest) 0) refl refl z
-    where
-      go : (v w : Bool) → eqb (x % bytes L smallest) 0 ≡ v → eqb (y % bytes L smallest) 0 ≡ w → (x % bytes L smallest ≢ 0) ⊎ ((y % bytes L smallest ≢ 0) ⊎ (y ≤ x)) → refusalOf L most limit s (seed x y) ≡ 2
-      go false w e f z = rw (e, refusalOf, refusals)
-      go true false e f z = rw (e, f, refusalOf, refusals)
-      go true true e f (inl z) = absurd (z (eqb-true (x % bytes L smallest) 0 e))
-      go true true e f (inr (inl z)) = absurd (z (eqb-true (y % bytes L smallest) 0 f))
-      go true true e f (inr (inr z)) = rw (e, f, le-leb y x z, refusalOf, refusals)
-
-  -- 3: they end behind memory
-  pub seed-3 : (x y : ℕ) → x % bytes L smallest ≡ 0 → y % bytes L smallest ≡ 0 → x < y → bytes L (largest L) < y → refusalOf L most limit s (seed x y) ≡ 3
-  unfolding refusalOf refusals
-  seed-3 x y e f l k = rw (eq-eqb (x % bytes L smallest) 0 e, eq-eqb (y % bytes L smallest) 0 f, lt-leb y x l, lt-ltb (bytes L (largest L)) y k)
-
-  -- 5: every place has a region
-  pub seed-5 : (x y : ℕ) → Spans L x y → most ≤ length (regionsOf L (s .state .starts) (s .state .ends)) → refusalOf L most limit s (seed x y) ≡ 5
-  seed-5 x y n l = seed-tests x y n ∙ rw (le-leb most (length regions) l)
-
-  -- 4: they share a frame with a region
-  pub seed-4 : (x y : ℕ) → Spans L x y → length (regionsOf L (s .state .starts) (s .state .ends)) < most → apart (addressFrame L x) (addressFrame L y) (regionsOf L (s .state .starts) (s .state .ends)) ≡ false
-      → refusalOf L most limit s (seed x y) ≡ 4
-  seed-4 x y n l e = seed-tests x y n ∙ rw (lt-leb most (length regions) l, e)
 
   -- 9: the openings of their blocks do not fit
   pub seed-9 : (x y : ℕ) → Spans L x y → length (regionsOf L (s .state .starts) (s .state .ends)) < most → apart (addressFrame L x) (addressFrame L y) (regionsOf L (s .state .starts) (s .state .ends)) ≡ true

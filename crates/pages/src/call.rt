@@ -1,5 +1,6 @@
 // The calls on a sound store: tests in document 01's order, then the act.
 ghost use mathlib.Core.Path.{_≡_};
+ghost use mathlib.Core.Bool.{true};
 ghost use Prim.Native.Nat.{ℕ, _+_, _-_, _*_, _≤_, _<_};
 ghost use lib.ListN.{length, set};
 ghost use Rattle.sizes.specs.Six.{six};
@@ -7,8 +8,10 @@ ghost use Rattle.model.specs.Calls.{seed as seeds, acquire as acquires, release
 ghost use Rattle.pool.specs.Limits.{places, poolLimit};
 ghost use Rattle.pool.specs.Nodes.{words, seedW};
 ghost use Rattle.pool.specs.Regions.{regionsOf};
+ghost use Rattle.pool.specs.RegionTest.{regionsPass};
 ghost use Rattle.pool.specs.Asks.{SpanAsk};
 ghost use Rattle.pages.specs.Calls.{store, deal, tell, plain, SoundStore, refusalOf, served};
+ghost use Rattle.pages.specs.Room.{regionRefusal};
 use crate::Dealt;
 use crate::Done;
 use crate::PLACES;
@@ -32,10 +35,10 @@ use sizes::Address;
 use sizes::Frame;
 use sizes::Place;
 
-// The refusal number of a seed, 0 for none.
-fn seed_refusal(state: State, pool: &[u32], start: Address, end: Address) -> u32
-    requires { ⌜ SoundStore six places poolLimit (store state (now pool)) ⌝ }
-    ensures { λ r. ⌜ r ≡ refusalOf six places poolLimit (store state (now (pool .entry))) (seeds (start .0) (end .0)) ⌝ }
+// The refusal number of a seed by its addresses and the regions, before the pool is looked at; 0 for none.
+pub fn region_refusal(state: State, start: Address, end: Address) -> u32
+    requires { ⌜ regionsPass six (state .starts) (state .ends) ≡ true ⌝ }
+    ensures { λ r. ⌜ r ≡ regionRefusal six places poolLimit state (start .0) (end .0) ⌝ }
 {
     let a = start.0;
     let e = end.0;
@@ -62,6 +65,20 @@ fn seed_refusal(state: State, pool: &[u32], start: Address, end: Address) -> u32
     if overlaps(&starts, &ends, 0, from, to.0 - from.0) != 0 {
         return 4;
     }
+    0
+}
+
+// The refusal number of a seed, 0 for none.
+fn seed_refusal(state: State, pool: &[u32], start: Address, end: Address) -> u32
+    requires { ⌜ SoundStore six places poolLimit (store state (now pool)) ⌝ }
+    ensures { λ r. ⌜ r ≡ refusalOf six places poolLimit (store state (now (pool .entry))) (seeds (start .0) (end .0)) ⌝ }
+{
+    let refusal = region_refusal(state, start, end);
+    if refusal != 0 {
+        return refusal;
+    }
+    let from = sizes::frame_of(start);
+    let to = sizes::frame_of(end);
     if seed_room(pool, from, to) > pool.len() - state.used {
         return 9;
     }

@@ -1,7 +1,8 @@
-// The page store: six calls on a state by value and a lent pool, each on any numbers and words. Its private modules hold the tests and what walks the pool.
+// The page store: six calls on a state by value and a lent pool, and room_for on a state alone, each on any numbers and words. Its private modules hold the tests and what walks the pool.
 mod call;
 mod ladder;
 mod node;
+mod planned;
 mod read;
 mod region;
 mod room;
@@ -15,6 +16,7 @@ ghost use Rattle.sizes.specs.Six.{six};
 ghost use Rattle.model.specs.Calls.{seed as seeds, acquire as acquires, release as releases, report as reports};
 ghost use Rattle.pool.specs.Limits.{places, poolLimit};
 ghost use Rattle.pages.specs.Calls.{store, deal, tell, plain, SoundStore, noRegions, Replies, freshReply};
+ghost use Rattle.pages.specs.Room.{Plans};
 
 // How many region places a state has.
 pub const PLACES: usize = 8;
@@ -48,6 +50,12 @@ pub struct Reported {
     pub free: u64,
     pub largest: usize,
     pub used: usize,
+}
+
+// The answer of room_for: the refusal number, 0 for none, and the most pool words that the regions can take.
+pub struct RoomFor {
+    pub refusal: u32,
+    pub words: u64,
 }
 
 // A state without regions.
@@ -150,4 +158,31 @@ pub fn check(state: State, pool: &[u32]) -> bool
     let starts = state.starts;
     let ends = state.ends;
     sound::sound(state.used, &starts, &ends, pool)
+}
+
+// How many pool words a state's regions and one more can ever take; `used` is not looked at.
+pub fn room_for(state: State, start: Address, end: Address) -> RoomFor
+    ensures { λ r. ⌜ Plans six places poolLimit state (start .0) (end .0) (r .refusal) (r .words) ⌝ }
+{
+    let starts = state.starts;
+    let ends = state.ends;
+    if !region::regions_pass(&starts, &ends) {
+        return RoomFor {
+            refusal: 10,
+            words: 0,
+        };
+    }
+    let refusal = call::region_refusal(state, start, end);
+    if refusal != 0 {
+        return RoomFor {
+            refusal: refusal,
+            words: 0,
+        };
+    }
+    let from = sizes::frame_of(start);
+    let to = sizes::frame_of(end);
+    RoomFor {
+        refusal: 0,
+        words: planned::room_of(&starts, &ends, from, to),
+    }
 }

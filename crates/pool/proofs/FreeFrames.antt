@@ -13,7 +13,7 @@ use lib.ListN.{length}
 use borrow.Author.Tests.{eqb-true, eqb-false}
 use Rattle.sizes.specs.Ladder.{Ladder}
 use Rattle.model.proofs.Count.{freeFrames-count}
-use Rattle.model.proofs.Frames.{bit-le}
+use Rattle.model.proofs.Frames.{count-le}
 use Rattle.model.specs.Frames.{bit, count}
 use Rattle.model.specs.Ladder.{fan, frames}
 use Rattle.model.specs.Lists.{maximum, sum}
@@ -81,11 +81,6 @@ total-mul fan p g c (suc l) q =
     ∙ ofBlock-mul g (fan (suc l)) (total fan p g l) c (linkOf (word p q))
 
 -- ---- the tree
-
-pub count-le : (g : ℕ → Bool) (n : ℕ) → count g n ≤ n
-unfolding count
-count-le g zero = omega arith
-count-le g (suc n) = omega (arith, bit-le (g n), count-le g n)
 
 sum-quiet : {A : Type 0} (g h : A → ℕ) → ((x : A) → g x ≡ 0 → h x ≡ 0) → (xs : List A) → maximum g xs ≡ 0 → sum h xs ≡ 0
 unfolding maximum sum

@@ -33,4 +33,5 @@ pub mod RegionTest
 pub mod Regions
 pub mod FreeFrames
 pub mod With
+pub mod Planned
 pub mod Cases

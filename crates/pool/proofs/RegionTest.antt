@@ -88,11 +88,11 @@ module _ (L : Ladder) where
   passes-if s e w = and-intro (eq-eqb (s % bytes L smallest) 0 (w .start-aligned)) (and-intro (eq-eqb (e % bytes L smallest) 0 (w .end-aligned)) (and-intro (lt-ltb s e (w .some)) (le-leb e (bytes L (largest L)) (w .within))))
 
   module _ (ss es : List ℕ) (i : ℕ) (hs : i < length ss) (he : i < length es) where
-    regions-here : getD es i 0 ≡ 0 → regionsOf L (drop i ss) (drop i es) ≡ []
+    pub regions-here : getD es i 0 ≡ 0 → regionsOf L (drop i ss) (drop i es) ≡ []
     unfolding regionsOf
     regions-here e = rw (drop-cons ss i 0 hs, drop-cons es i 0 he) (simp (eq-eqb _ _ e))
 
-    regions-past : (getD es i 0 ≡ 0 → ⊥) → regionsOf L (drop i ss) (drop i es) ≡ record { start = addressFrame L (getD ss i 0); end = addressFrame L (getD es i 0) } ∷ regionsOf L (drop (i + 1) ss) (drop (i + 1) es)
+    pub regions-past : (getD es i 0 ≡ 0 → ⊥) → regionsOf L (drop i ss) (drop i es) ≡ record { start = addressFrame L (getD ss i 0); end = addressFrame L (getD es i 0) } ∷ regionsOf L (drop (i + 1) ss) (drop (i + 1) es)
     unfolding regionsOf
     regions-past e = rw (add-one i, drop-cons ss i 0 hs, drop-cons es i 0 he) (simp (ne-eqb _ _ e))
 

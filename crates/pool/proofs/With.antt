@@ -17,13 +17,12 @@ use Rattle.model.specs.Ladder.{frames, top}
 use Rattle.model.specs.Lists.{sum, all}
 use Rattle.model.specs.Calls.{Region, seeded, Regions as FrameRegions}
 use Rattle.model.specs.TreeStore.{overlap, covered, apart, seededFrames}
-use Rattle.model.proofs.Frames.{painted, painted-more}
+use Rattle.model.proofs.Frames.{painted, painted-more, count-le}
 use Rattle.model.proofs.Regions.{seeded-count}
 use Rattle.pool.specs.Limits.{mostFrames}
 use Rattle.pool.specs.Regions.{Regions, regionsOf, newest}
 use Rattle.pool.specs.RegionTest.{regionPasses, zeros, regionsPass}
 use Rattle.pool.proofs.Cover.{and-true, and-intro}
-use Rattle.pool.proofs.FreeFrames.{count-le}
 use Rattle.pool.proofs.RegionTest.{passes-of}
 use Rattle.pool.proofs.Regions.{regions-fit}
 use Rattle.pool.proofs.Sizes.{top-frames}

@@ -4,6 +4,7 @@ pub mod Nodes
 pub mod Room
 pub mod View
 pub mod Regions
+pub mod Planned
 pub mod Blocks
 pub mod Check
 pub mod RegionTest

@@ -1,23 +1,19 @@
--- seed_refusal: each early return is the law of its number. Assumes nothing.
+-- Proof of `seed_refusal`: a refusal by the regions is the seed's; behind it only 9 is left. Assumes nothing.
 use borrow.Author.Needs.{needs}
-use borrow.Author.Tests.{eq-eqb, ne-eqb}
-use mathlib.Core.Bool.{Bool, true, false}
-use mathlib.Core.Logic.{inl, inr}
-use mathlib.Core.Path.{_≡_, sym, ap, _∙_}
-use Prim.Native.Nat.{ℕ, _%_, _≤_, _<_}
+use mathlib.Core.Path.{_≡_, sym, _∙_}
+use mathlib.Core.Bool.{true}
+use Prim.Native.Nat.{ℕ}
 use native.Mathlib.Omega.{arith}
-use lib.Dec.{eqb}
-use lib.ListN.{length, length-map}
-use Rattle.sizes.specs.Ladder.{smallest, largest, bytes, addressFrame}
+use lib.ListN.{length-map}
 use Rattle.sizes.specs.Six.{six}
 use Rattle.sizes.proofs.Six.{six-multiplies}
-use Rattle.model.specs.TreeStore.{apart}
-use Rattle.pool.specs.Limits.{places, poolLimit, mostFrames}
-use Rattle.pool.specs.Regions.{regionsOf}
-use Rattle.pages.specs.Calls.{Store, store, Places}
+use Rattle.pool.specs.RegionTest.{regionsPass}
+use Rattle.pool.specs.Limits.{places, poolLimit}
 use Rattle.pool.proofs.Sizes.{small-six}
-use Rattle.pages.proofs.AskSeed.{in-frames, apart-read, room-read, seed-ask}
-use Rattle.pages.proofs.Refusals.{Spans, seed-2, seed-3, seed-5, seed-4, seed-9, seed-0}
+use Rattle.pages.specs.Calls.{Store, store, Places}
+use Rattle.pages.proofs.SeedTests.{seed-refused, passing, Joins, joins}
+use Rattle.pages.proofs.Refusals.{seed-9, seed-0}
+use Rattle.pages.proofs.AskSeed.{room-read, seed-ask}
 use Rattle.pages.proofs.call.seed_refusal.Statement.{statement}
 use Rattle.pages.proofs.call.seed_refusal.Tie as tie
 
@@ -31,103 +27,24 @@ placed s = record {
   ends = sym (length-map (s .args .state .ends) _) ∙ s .good .0 .1 .1 .1 .1 .0 .1 .0 .1;
 }
 
--- where the code stands in front of, and behind, the tests of the addresses, of the count and of the overlaps
-abbrev first : tie.After-in-bytes → tie.Start
+passed : (s : tie.Start) → regionsPass six (given s .state .starts) (given s .state .ends) ≡ true
+passed s = passing six places poolLimit six-multiplies (given s) (placed s) (s .pre)
+
+-- behind the first test the region may join the others
+abbrev first : tie.Else1 → tie.Start
 first c = c .before .before .before
 
-abbrev addressed : tie.Else4 → tie.Start
-addressed c = first (c .before .before .before .before .before .before)
+joined : (c : tie.Else1) → Joins six places poolLimit six-multiplies (first c .args .state) (passed (first c)) (first c .args .start .0) (first c .args .end .0)
+joined c = let s = first c in let k = c .before .region-refusal in joins six places poolLimit six-multiplies (s .args .state) (passed s) (s .args .start .0) (s .args .end .0) (sym (k .ensures) ∙ c .if1 .left)
 
-abbrev counted : tie.Else5 → tie.Else4
-counted c = c .before .before .before .before .before .before
-
-abbrev summed : tie.Else6 → tie.After-struct-known2
-summed c = c .before .before
-
--- behind the frames' reads
-abbrev framed : tie.After-struct-known2 → tie.After-frame-of2
-framed c = c .before .before .before .before
-
-abbrev start : tie.After-frame-of2 → tie.Start
-start c = addressed (counted (c .before .before))
-
-smallest-requires : tie.Need-smallest-requires
-smallest-requires c κs = search needs
-
-in-bytes-requires : tie.Need-in-bytes-requires
-in-bytes-requires c κs = search needs
-
--- the page that the code divides by
-page : (c : tie.After-in-bytes) → c .in-bytes .result ≡ bytes six smallest
-page c = c .in-bytes .ensures .0 ∙ ap (bytes six) (c .before .smallest .ensures)
-
-rem-if1 : tie.Need-rem-if1
-rem-if1 c = omega (arith, page c, six-multiplies .page)
+region-refusal-requires : tie.Need-region-refusal-requires
+region-refusal-requires c κs = passed (c .before)
 
 returns : tie.Need-returns
 returns c =
-    let s = first (c .before) in
-    let x : ℕ = s .args .start .0 in
-    sym (seed-2 six places poolLimit six-multiplies small-six (given s) (placed s) (s .pre) x (s .args .end .0) (inl (λ z. c .if1 .taken (ap (λ (n : ℕ). x % n) (page (c .before)) ∙ z))))
-
-rem-if2 : tie.Need-rem-if2
-rem-if2 c = omega (arith, page (c .before), six-multiplies .page)
-
-returns-2 : tie.Need-returns-2
-returns-2 c =
-    let s = first (c .before .before) in
-    let y : ℕ = s .args .end .0 in
-    sym (seed-2 six places poolLimit six-multiplies small-six (given s) (placed s) (s .pre) (s .args .start .0) y (inr (inl (λ z. c .if2 .taken (ap (λ (n : ℕ). y % n) (page (c .before .before)) ∙ z)))))
-
-returns-3 : tie.Need-returns-3
-returns-3 c =
-    let s = first (c .before .before .before) in
-    sym (seed-2 six places poolLimit six-multiplies small-six (given s) (placed s) (s .pre) (s .args .start .0) (s .args .end .0) (inr (inr (c .if3 .taken))))
-
-start-aligned : (c : tie.Else1) → first (c .before) .args .start .0 % bytes six smallest ≡ 0
-start-aligned c = ap (λ (n : ℕ). first (c .before) .args .start .0 % n) (sym (page (c .before))) ∙ c .if1 .left
-
-end-aligned : (c : tie.Else2) → first (c .before .before) .args .end .0 % bytes six smallest ≡ 0
-end-aligned c = ap (λ (n : ℕ). first (c .before .before) .args .end .0 % n) (sym (page (c .before .before))) ∙ c .if2 .left
-
--- the end of memory
-limit : (c : tie.After-in-bytes2) → c .in-bytes2 .result ≡ bytes six (largest six)
-limit c = c .in-bytes2 .ensures .0 ∙ ap (bytes six) (c .before .largest .ensures .0)
-
-largest-requires : tie.Need-largest-requires
-largest-requires c κs = search needs
-
-in-bytes-requires-2 : tie.Need-in-bytes-requires-2
-in-bytes-requires-2 c κs = search needs
-
-returns-4 : tie.Need-returns-4
-returns-4 c =
-    let b = c .before .before .before in
-    let s = first (b .before .before .before) in
-    sym (seed-3 six places poolLimit six-multiplies small-six (given s) (placed s) (s .pre) (s .args .start .0) (s .args .end .0) (start-aligned (b .before .before)) (end-aligned (b .before)) (b .if3 .left) (omega (arith, limit (c .before), c .if4 .taken)))
-
--- the addresses have passed
-spans : (c : tie.Else4) → Spans six (addressed c .args .start .0) (addressed c .args .end .0)
-spans c = let b = c .before .before .before in record { start = start-aligned (b .before .before); end = end-aligned (b .before); some = b .if3 .left; within = omega (arith, limit (c .before), c .if4 .left) }
-
-slice-aggregate-region-count : tie.Need-slice-aggregate-region-count
-slice-aggregate-region-count c = search needs
-
-slice-aggregate-region-count-2 : tie.Need-slice-aggregate-region-count-2
-slice-aggregate-region-count-2 c = search needs
-
-region-count-requires : tie.Need-region-count-requires
-region-count-requires c κs = search needs
-
-returns-5 : tie.Need-returns-5
-returns-5 c =
-    let b = c .before .before .before .before .before .before in
-    let s = addressed b in
-    sym (seed-5 six places poolLimit six-multiplies small-six (given s) (placed s) (s .pre) (s .args .start .0) (s .args .end .0) (spans b) (omega (arith, c .before .region-count .ensures .0, c .if5 .taken)))
-
--- a place is free
-few : (c : tie.Else5) → length (regionsOf six (addressed (counted c) .args .state .starts) (addressed (counted c) .args .state .ends)) < places
-few c = let k = c .before .region-count in let n : k .result < places = omega (arith, k .ensures .1, c .if5 .left) in omega (arith, k .ensures .0, n)
+    let s = c .before .before .before in
+    let k = c .before .region-refusal in
+    seed-refused six places poolLimit (given s) (s .args .start .0) (s .args .end .0) (k .result) (k .ensures) (c .if1 .taken)
 
 frame-of-requires : tie.Need-frame-of-requires
 frame-of-requires c κs = search needs
@@ -135,94 +52,46 @@ frame-of-requires c κs = search needs
 frame-of-requires-2 : tie.Need-frame-of-requires-2
 frame-of-requires-2 c κs = search needs
 
-slice-aggregate-overlaps : tie.Need-slice-aggregate-overlaps
-slice-aggregate-overlaps c = search needs
-
-slice-aggregate-overlaps-2 : tie.Need-slice-aggregate-overlaps-2
-slice-aggregate-overlaps-2 c = search needs
-
--- the span's frames
-span : (c : tie.After-frame-of2) → (c .before .frame-of .result .0 < c .frame-of2 .result .0) × (c .frame-of2 .result .0 ≤ mostFrames)
-span c = let s = start c in in-frames (s .args .start .0) (s .args .end .0) (spans (counted (c .before .before))) (c .before .frame-of .result .0) (c .frame-of2 .result .0) (c .before .frame-of .ensures) (c .frame-of2 .ensures)
-
-sub-overlaps : tie.Need-sub-overlaps
-sub-overlaps c = omega (arith, span (framed c) .0)
-
-overlaps-requires : tie.Need-overlaps-requires
-overlaps-requires c κs = let s = start (framed c) in (placed s .starts, placed s .ends, omega arith, omega (arith, span (framed c) .0, span (framed c) .1))
-
--- what the sum of the overlaps tells
-alone : (c : tie.After-overlaps) → (v : Bool) → eqb (c .overlaps .result) 0 ≡ v
-    → apart (addressFrame six (start (framed (c .before)) .args .start .0)) (addressFrame six (start (framed (c .before)) .args .end .0)) (regionsOf six (start (framed (c .before)) .args .state .starts) (start (framed (c .before)) .args .state .ends)) ≡ v
-alone c v e =
-    let f = framed (c .before) in
-    let s = start f in
-    apart-read (s .args .start .0) (s .args .end .0) (f .before .frame-of .result .0) (f .frame-of2 .result .0) (c .overlaps .result) (regionsOf six (s .args .state .starts) (s .args .state .ends)) (f .before .frame-of .ensures) (f .frame-of2 .ensures) (omega (arith, span f .0)) (c .overlaps .ensures)
-    ∙ e
-
-returns-6 : tie.Need-returns-6
-returns-6 c =
-    let f = framed (c .before .before) in
-    let s = start f in
-    sym (seed-4 six places poolLimit six-multiplies small-six (given s) (placed s) (s .pre) (s .args .start .0) (s .args .end .0) (spans (counted (f .before .before))) (few (f .before .before)) (alone (c .before) false (ne-eqb (c .before .overlaps .result) 0 (c .if6 .taken))))
-
 seed-room-requires : tie.Need-seed-room-requires
 seed-room-requires c κs =
-    let f = framed (summed c) in
-    let s = start f in
-    seed-ask (s .args .start .0) (s .args .end .0) (spans (counted (f .before .before))) (f .before .frame-of .result .0) (f .frame-of2 .result .0) (f .before .frame-of .ensures) (f .frame-of2 .ensures) (given s) (placed s) (s .pre)
+    let b = c .before .before in
+    let s = first b in
+    seed-ask (s .args .start .0) (s .args .end .0) (joined b .spans) (c .before .frame-of .result .0) (c .frame-of2 .result .0) (c .before .frame-of .ensures) (c .frame-of2 .ensures) (given s) (placed s) (s .pre)
 
-sub-if7 : tie.Need-sub-if7
-sub-if7 c = search needs
+sub-if2 : tie.Need-sub-if2
+sub-if2 c = search needs
 
-returns-7 : tie.Need-returns-7
-returns-7 c =
-    let b = c .before .before .before in
-    let f = framed (summed b) in
-    let s = start f in
+returns-2 : tie.Need-returns-2
+returns-2 c =
+    let f = c .before .before .before in
+    let b = f .before .before in
+    let s = first b in
     let x : ℕ = s .args .start .0 in
     let y : ℕ = s .args .end .0 in
     let k = c .before .before .seed-room in
     let n = room-read x y (f .before .frame-of .result .0) (f .frame-of2 .result .0) (k .result) (s .args .pool .now) (f .before .frame-of .ensures) (f .frame-of2 .ensures) (k .ensures) in
-    sym (seed-9 six places poolLimit six-multiplies small-six (given s) (placed s) (s .pre) x y (spans (counted (f .before .before))) (few (f .before .before)) (alone (b .before) true (eq-eqb (b .before .overlaps .result) 0 (b .if6 .left))) (omega (arith, n, c .if7 .taken, s .pre .high)))
+    sym (seed-9 six places poolLimit six-multiplies small-six (given s) (placed s) (s .pre) x y (joined b .spans) (joined b .few) (joined b .alone) (omega (arith, n, c .if2 .taken, s .pre .high)))
 
-returns-8 : tie.Need-returns-8
-returns-8 c =
-    let b = c .before .before .before in
-    let f = framed (summed b) in
-    let s = start f in
+returns-3 : tie.Need-returns-3
+returns-3 c =
+    let f = c .before .before .before in
+    let b = f .before .before in
+    let s = first b in
     let x : ℕ = s .args .start .0 in
     let y : ℕ = s .args .end .0 in
     let k = c .before .before .seed-room in
     let n = room-read x y (f .before .frame-of .result .0) (f .frame-of2 .result .0) (k .result) (s .args .pool .now) (f .before .frame-of .ensures) (f .frame-of2 .ensures) (k .ensures) in
-    sym (seed-0 six places poolLimit six-multiplies small-six (given s) (placed s) (s .pre) x y (spans (counted (f .before .before))) (few (f .before .before)) (alone (b .before) true (eq-eqb (b .before .overlaps .result) 0 (b .if6 .left))) (omega (arith, n, c .if7 .left, s .pre .high)))
+    sym (seed-0 six places poolLimit six-multiplies small-six (given s) (placed s) (s .pre) x y (joined b .spans) (joined b .few) (joined b .alone) (omega (arith, n, c .if2 .left, s .pre .high)))
 
 pub seed-refusal-spec : {M : Type 1} → statement M
 seed-refusal-spec =
     tie.close
     (tie.spec
-    smallest-requires
-    in-bytes-requires
-    rem-if1
+    region-refusal-requires
     returns
-    rem-if2
-    returns-2
-    returns-3
-    largest-requires
-    in-bytes-requires-2
-    returns-4
-    slice-aggregate-region-count
-    slice-aggregate-region-count-2
-    region-count-requires
-    returns-5
     frame-of-requires
     frame-of-requires-2
-    slice-aggregate-overlaps
-    slice-aggregate-overlaps-2
-    sub-overlaps
-    overlaps-requires
-    returns-6
     seed-room-requires
-    sub-if7
-    returns-7
-    returns-8)
+    sub-if2
+    returns-2
+    returns-3)

@@ -1,0 +1,24 @@
+-- What `seed` of the page store answers is handed out. Assumes nothing.
+use borrow.Author.Needs.{needs}
+use Rattle.page_store_c.proofs.Boundary.{done}
+use Rattle.page_store_c.proofs.page_store_seed.Statement.{statement}
+use Rattle.page_store_c.proofs.page_store_seed.Tie as tie
+
+state-in-requires : tie.Need-state-in-requires
+state-in-requires c κs = search needs
+
+seed-requires : tie.Need-seed-requires
+seed-requires c κs = search needs
+
+done-out-requires : tie.Need-done-out-requires
+done-out-requires c κs = search needs
+
+same-length : tie.Need-same-length
+same-length c = search needs
+
+returns : tie.Need-returns
+returns c = done _ _ _ _ _ _ (c .before .before .before .before .before .state-in .ensures) _ _ _ (c .done-out .ensures) (c .before .before .before .seed .ensures)
+
+pub page-store-seed-spec : {M : Type 1} → statement M
+page-store-seed-spec =
+    tie.close (tie.spec state-in-requires seed-requires done-out-requires same-length returns)
