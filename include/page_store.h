@@ -12,7 +12,8 @@
  * aligned to 4 bytes, and `words` words must be there to be read and written. NULL with 0 words is refused as any empty pool is.
  *
  * Every answer but check's begins with a refusal number, PAGE_STORE_DONE where the call did what was asked. A REFUSED CALL CHANGES
- * NOTHING: the state handed back is the one passed, no pool word is changed, and all other fields of the answer are 0.
+ * NOTHING: the state handed back is the one passed, no pool word is changed, and all other fields of the answer are 0. (fresh is passed no
+ * state, and refused it hands back zeros; room_for hands no state back.)
  *
  * Each call but fresh and room_for first checks the whole used part of the pool, and its time grows with it. What is not sound gets
  * PAGE_STORE_UNSOUND. Not all damage is seen: overwritten words, or an old state, can happen to be another sound store.
@@ -30,7 +31,7 @@ extern "C" {
 #define PAGE_STORE_ASSERT(what) _Static_assert(what, #what)
 #endif
 
-/* ---- Refusal numbers. Where several apply, each function says which comes first. */
+/* ---- Refusal numbers. Where several apply, each call says which comes first; its comment leaves out `PAGE_STORE_`. */
 
 /* Not refused: the call did what was asked. */
 #define PAGE_STORE_DONE 0
@@ -53,8 +54,8 @@ extern "C" {
 /* seed, acquire, release: the pool has too few words left for the nodes that the call would open. Other sizes and addresses may still be
  * served. A pool of as many words as page_store_room_for says never gets here. */
 #define PAGE_STORE_OUT_OF_ROOM 9
-/* The state and the pool do not belong together, or one of them was overwritten. Nothing else is served then, and nothing is repaired.
- * room_for: the state's regions are damaged. */
+/* seed, acquire, release, report: the state and the pool do not belong together, or one of them was overwritten. All four are refused then
+ * and nothing is repaired: pass the right state and words, or begin anew with fresh. room_for: the state's regions are damaged. */
 #define PAGE_STORE_UNSOUND 10
 /* fresh: the pool has no words, or more than PAGE_STORE_POOL_LIMIT. */
 #define PAGE_STORE_BAD_POOL 11

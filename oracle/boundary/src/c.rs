@@ -7,42 +7,42 @@ use oracle::store::{Answer, Calls, REGIONS, State};
 #[repr(C)]
 #[derive(Clone, Copy)]
 pub struct StoreState {
-    used: u64,
-    starts: [u64; REGIONS],
-    ends: [u64; REGIONS],
+    pub(crate) used: u64,
+    pub(crate) starts: [u64; REGIONS],
+    pub(crate) ends: [u64; REGIONS],
 }
 
 /// `page_store_done`.
 #[repr(C)]
-struct Done {
-    refusal: u64,
-    state: StoreState,
+pub(crate) struct Done {
+    pub(crate) refusal: u64,
+    pub(crate) state: StoreState,
 }
 
 /// `page_store_dealt`.
 #[repr(C)]
-struct Dealt {
-    refusal: u64,
-    state: StoreState,
-    base: u64,
-    probes: u64,
+pub(crate) struct Dealt {
+    pub(crate) refusal: u64,
+    pub(crate) state: StoreState,
+    pub(crate) base: u64,
+    pub(crate) probes: u64,
 }
 
 /// `page_store_reported`.
 #[repr(C)]
-struct Reported {
-    refusal: u64,
-    state: StoreState,
-    seeded: u64,
-    free: u64,
-    largest: u64,
-    used: u64,
+pub(crate) struct Reported {
+    pub(crate) refusal: u64,
+    pub(crate) state: StoreState,
+    pub(crate) seeded: u64,
+    pub(crate) free: u64,
+    pub(crate) largest: u64,
+    pub(crate) used: u64,
 }
 
 /// `page_store_room`.
 #[repr(C)]
-struct Room {
-    refusal: u64,
+pub(crate) struct Room {
+    pub(crate) refusal: u64,
     words: u64,
 }
 
@@ -54,13 +54,13 @@ const _: () = assert!(size_of::<Reported>() == 40 + size_of::<StoreState>());
 const _: () = assert!(size_of::<Room>() == 16);
 
 unsafe extern "C" {
-    fn page_store_fresh(pool: *mut u32, words: usize) -> Done;
-    fn page_store_seed(state: StoreState, pool: *mut u32, words: usize, start: u64, end: u64) -> Done;
-    fn page_store_acquire(state: StoreState, pool: *mut u32, words: usize, code: u64) -> Dealt;
-    fn page_store_release(state: StoreState, pool: *mut u32, words: usize, base: u64, code: u64) -> Done;
-    fn page_store_report(state: StoreState, pool: *const u32, words: usize) -> Reported;
-    fn page_store_check(state: StoreState, pool: *const u32, words: usize) -> u64;
-    fn page_store_room_for(state: StoreState, start: u64, end: u64) -> Room;
+    pub(crate) fn page_store_fresh(pool: *mut u32, words: usize) -> Done;
+    pub(crate) fn page_store_seed(state: StoreState, pool: *mut u32, words: usize, start: u64, end: u64) -> Done;
+    pub(crate) fn page_store_acquire(state: StoreState, pool: *mut u32, words: usize, code: u64) -> Dealt;
+    pub(crate) fn page_store_release(state: StoreState, pool: *mut u32, words: usize, base: u64, code: u64) -> Done;
+    pub(crate) fn page_store_report(state: StoreState, pool: *const u32, words: usize) -> Reported;
+    pub(crate) fn page_store_check(state: StoreState, pool: *const u32, words: usize) -> u64;
+    pub(crate) fn page_store_room_for(state: StoreState, start: u64, end: u64) -> Room;
 }
 
 impl From<State> for StoreState {

@@ -5,6 +5,7 @@
 #[rustfmt::skip]
 #[allow(clippy::empty_line_after_doc_comments, clippy::let_and_return)]
 pub mod allocator;
+pub mod bare;
 #[rustfmt::skip]
 pub mod page_size;
 mod stand_ins;
