@@ -151,6 +151,21 @@ static void a_part_was_dealt_on(void)
     give_up(&w);
 }
 
+/* Guest 1 has a page, is restarted, and the page is dealt to guest 2; the stale list still has it. */
+static watched dealt_on(guest *one, guest *two, guest *stale)
+{
+    watched w = seeded(1418, AT, AT + BYTES_16K);
+
+    one->count = 0;
+    two->count = 0;
+    CHECK(deal(&w, one, PAGE_STORE_4K) == PAGE_STORE_DONE);
+    *stale = *one;
+    restart(&w, one);
+    CHECK(deal(&w, two, PAGE_STORE_4K) == PAGE_STORE_DONE);
+    CHECK(has(two, &stale->pages[0]));
+    return w;
+}
+
 /*
  * Between the two releases the page is dealt to guest 2. What the store can know: which memory is seeded, free and held. The page IS held now,
  * so the second release is accepted. What it cannot know: who holds it. "Nothing tells whose page it is: that the caller was dealt it is the
@@ -160,14 +175,9 @@ static void a_part_was_dealt_on(void)
  */
 static void another_guest_has_it_now(void)
 {
-    watched w = seeded(1418, AT, AT + BYTES_16K);
-    guest one = {0, {{0, 0}}}, two = {0, {{0, 0}}}, stale;
+    guest one, two, stale;
+    watched w = dealt_on(&one, &two, &stale);
 
-    CHECK(deal(&w, &one, PAGE_STORE_4K) == PAGE_STORE_DONE);
-    stale = one;
-    restart(&w, &one);
-    CHECK(deal(&w, &two, PAGE_STORE_4K) == PAGE_STORE_DONE);
-    CHECK(has(&two, &stale.pages[0]));
     CHECK(release(&w, stale.pages[0].base, stale.pages[0].code) == PAGE_STORE_DONE);
     CHECK(deal(&w, &one, PAGE_STORE_4K) == PAGE_STORE_DONE);
     CHECK(!all_apart(&one, &two)); /* both lists have the page */
@@ -178,15 +188,10 @@ static void another_guest_has_it_now(void)
 /* The same with a book: a guest's page is given back only if the guest's own list has it, and leaves the list with that. */
 static void the_book_stops_it(void)
 {
-    watched w = seeded(1418, AT, AT + BYTES_16K);
-    guest one = {0, {{0, 0}}}, two = {0, {{0, 0}}}, stale;
+    guest one, two, stale;
+    watched w = dealt_on(&one, &two, &stale);
 
-    CHECK(deal(&w, &one, PAGE_STORE_4K) == PAGE_STORE_DONE);
-    stale = one;
-    restart(&w, &one);
-    CHECK(deal(&w, &two, PAGE_STORE_4K) == PAGE_STORE_DONE);
-    if (has(&one, &stale.pages[0])) /* it does not: the store is not asked */
-        CHECK(release(&w, stale.pages[0].base, stale.pages[0].code) == PAGE_STORE_DONE);
+    CHECK(!has(&one, &stale.pages[0])); /* so the store is not asked */
     CHECK(deal(&w, &one, PAGE_STORE_4K) == PAGE_STORE_DONE);
     CHECK(all_apart(&one, &two));
     give_up(&w);
