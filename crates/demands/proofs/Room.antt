@@ -220,9 +220,9 @@ module _ (L : Ladder) (most limit : ℕ) (m : MultipliesUp L) (small : suc (top 
   plans-enough s a e n w q z p f l cs rs t u o = go (roomy-dec rs)
     where
       gs : List Region
-      gs = withRegion L most limit s a e
+      gs = withRegion L s a e
 
-      planned : (k v : ℕ) → n ≡ k → v ≡ roomOr L most limit k (roomFor L gs) → v ≡ roomFor L gs
+      planned : (k v : ℕ) → n ≡ k → v ≡ roomOr k (roomFor L gs) → v ≡ roomFor L gs
       planned zero v i j = j
       planned (suc k) v i j = absurd (omega (arith, z, i))
 

@@ -3,15 +3,15 @@ use mathlib.Core.Path.{_≡_}
 use mathlib.Core.Logic.{_⊎_, _≢_}
 use mathlib.Core.Bool.{true}
 use mathlib.Core.List.{List, [], _∷_}
-use Prim.Native.Nat.{ℕ, _-_, _≤_, _<_}
+use Prim.Native.Nat.{ℕ, _+_, _-_, _≤_, _<_}
 use lib.ListN.{length}
-use Rattle.sizes.specs.Ladder.{Ladder, addressFrame}
+use Rattle.sizes.specs.Ladder.{Ladder, bytes, addressFrame}
 use Rattle.model.specs.Frames.{Wholly}
 use Rattle.model.specs.Calls.{Region, seeded, Regions, Call, seed, acquire, release, report}
 use Rattle.model.specs.FrameStore.{memory}
 use Rattle.model.specs.Room.{roomFor}
 use Rattle.pages.specs.declared.State.{State}
-use Rattle.pages.specs.Calls.{Store, Reply, freshReply}
+use Rattle.pages.specs.Calls.{Store, Reply, Places, SoundStore, Replies, freshReply}
 use Rattle.pages.specs.Room.{withRegion, Plans}
 use Rattle.demands.specs.Demands.{Runs}
 
@@ -44,7 +44,18 @@ module _ (L : Ladder) (most limit : ℕ) where
   NoLess = (gs : List Region) → Regions (memory L) gs → length gs ≤ most → (p : List ℕ) → freshReply L most limit p .refusal ≡ 0 → length p < roomFor L gs
       → (cs : List Call) × (rs : List Reply) × (s : Store) × Runs L most limit (freshReply L most limit p .store) cs rs s × On gs cs rs × (Roomy rs → ⊥)
 
-  -- ... and room_for answers that many
+  -- room_for answers as many as are enough
   abbrev pub PlansEnough : Type 0
   PlansEnough = (s : State) (a e n w : ℕ) → Plans L most limit s a e n w → n ≡ 0 → (p : List ℕ) → freshReply L most limit p .refusal ≡ 0 → w ≤ length p
-      → (cs : List Call) (rs : List Reply) (t : Store) → Runs L most limit (freshReply L most limit p .store) cs rs t → On (withRegion L most limit s a e) cs rs → Roomy rs
+      → (cs : List Call) (rs : List Reply) (t : Store) → Runs L most limit (freshReply L most limit p .store) cs rs t → On (withRegion L s a e) cs rs → Roomy rs
+
+  -- ... and no more
+  abbrev pub PlansNoLess : Type 0
+  PlansNoLess = (s : State) → length (s .starts) ≡ most → length (s .ends) ≡ most → (a e n w : ℕ) → Plans L most limit s a e n w → n ≡ 0 → (p : List ℕ) → freshReply L most limit p .refusal ≡ 0 → length p < w
+      → (cs : List Call) × (rs : List Reply) × (t : Store) × Runs L most limit (freshReply L most limit p .store) cs rs t × On (withRegion L s a e) cs rs × (Roomy rs → ⊥)
+
+  -- whatever the pool: behind an accepted acquire, the page that was dealt, and any page that it is a part of, is never refused with 9 when it is given back
+  abbrev pub GivesBack : Type 0
+  GivesBack = (s : Store) → Places L most limit s → SoundStore L most limit s → (k : ℕ) (d : Reply) → Replies L most limit s (acquire k) d → d .refusal ≡ 0
+      → (cs : List Call) (rs : List Reply) (t : Store) → Runs L most limit (d .store) cs rs t
+      → (b c : ℕ) → k ≤ c → b ≤ d .base → d .base < b + bytes L c → (r : Reply) → Replies L most limit t (release b c) r → r .refusal ≢ 9

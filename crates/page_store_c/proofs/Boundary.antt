@@ -44,7 +44,7 @@ none = omega arith
 -- the check said yes, or no, of the state that came in
 module _ (s s' : State) (p : List ℕ) (r : Bool) (came : s' ≡ s) (asked : (r ≡ true → SoundStore six places poolLimit (store s' p)) × (SoundStore six places poolLimit (store s' p) → r ≡ true)) where
   pub tells-1 : r ≡ true → Tells (SoundStore six places poolLimit (store s p)) 1
-  tells-1 e = record { yes = λ h. refl; no = λ h. absurd (h (subst (λ (x : State). SoundStore six places poolLimit (store x p)) came (asked .0 e))); bit = one }
+  tells-1 e = record { yes = λ h. refl; only = λ h. subst (λ (x : State). SoundStore six places poolLimit (store x p)) came (asked .0 e); bit = one }
 
   pub tells-0 : r ≡ false → Tells (SoundStore six places poolLimit (store s p)) 0
-  tells-0 e = record { yes = λ h. absurd (true≢false (sym (asked .1 (subst⁻¹ (λ (x : State). SoundStore six places poolLimit (store x p)) came h)) ∙ e)); no = λ h. refl; bit = none }
+  tells-0 e = record { yes = λ h. absurd (true≢false (sym (asked .1 (subst⁻¹ (λ (x : State). SoundStore six places poolLimit (store x p)) came h)) ∙ e)); only = λ h. absurd (omega arith); bit = none }

@@ -2,14 +2,16 @@
 use mathlib.Core.Path.{_≡_, sym, ap, ap₂, _∙_}
 use mathlib.Core.List.{List}
 use Prim.Native.Nat.{ℕ}
+use native.Mathlib.Omega.{arith}
+use native.Mathlib.Decide.{ℕ-discrete}
 use Rattle.sizes.specs.Six.{six}
 use Rattle.sizes.proofs.Six.{six-multiplies}
 use Rattle.model.specs.Calls.{Call, acquire, report}
 use Rattle.pool.specs.Limits.{places, poolLimit}
 use Rattle.pages.specs.declared.State.{State}
-use Rattle.pages.specs.Calls.{Reply, store, plain, deal, tell, Places, SoundStore, Replies, freshReply}
+use Rattle.pages.specs.Calls.{Reply, store, plain, deal, tell, Places, Replies, freshReply}
 use Rattle.pages.specs.Room.{Plans}
-use Rattle.demands.proofs.Unique.{unique, sound-dec, plans-unique}
+use Rattle.demands.proofs.Unique.{unique, plans-unique}
 use Rattle.page_store_c.specs.declared.StoreState.{StoreState}
 use Rattle.page_store_c.specs.declared.StoreDone.{StoreDone}
 use Rattle.page_store_c.specs.declared.StoreDealt.{StoreDealt}
@@ -53,13 +55,15 @@ module _ (s : StoreState) (p : List ℕ) (a : Places six places poolLimit (store
   pub reported-unique : (d d' : StoreReported) → Replies six places poolLimit (store (inner s) p) report (tell (d .refusal) (store (inner (d .state)) p) (d .seeded) (d .free) (d .largest) (d .used)) → Replies six places poolLimit (store (inner s) p) report (tell (d' .refusal) (store (inner (d' .state)) p) (d' .seeded) (d' .free) (d' .largest) (d' .used)) → d ≡ d'
   reported-unique d d' h h' = ap reportedOf (one report _ _ h h')
 
-  -- CHECK
-  pub check-unique : (n n' : ℕ) → Tells (SoundStore six places poolLimit (store (inner s) p)) n → Tells (SoundStore six places poolLimit (store (inner s) p)) n' → n ≡ n'
-  check-unique n n' h h' = go (sound-dec six places poolLimit six-multiplies (store (inner s) p) a)
+-- CHECK: of a statement
+module _ (P : Type 0) where
+  pub check-unique : (n n' : ℕ) → Tells P n → Tells P n' → n ≡ n'
+  check-unique n n' h h' = go (ℕ-discrete n 1) (ℕ-discrete n' 1)
     where
-      go : Dec (SoundStore six places poolLimit (store (inner s) p)) → n ≡ n'
-      go (yes k) = h .yes k ∙ sym (h' .yes k)
-      go (no k) = h .no k ∙ sym (h' .no k)
+      go : Dec (n ≡ 1) → Dec (n' ≡ 1) → n ≡ n'
+      go (yes e) f = e ∙ sym (h' .yes (h .only e))
+      go (no e) (yes f) = absurd (e (h .yes (h' .only f)))
+      go (no e) (no f) = omega (arith, e, f, h .bit, h' .bit)
 
 -- ROOM_FOR
 pub room-unique : (s : StoreState) (a e : ℕ) (d d' : StoreRoom) → Plans six places poolLimit (inner s) a e (d .refusal) (d .words) → Plans six places poolLimit (inner s) a e (d' .refusal) (d' .words) → d ≡ d'

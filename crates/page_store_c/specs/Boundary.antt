@@ -11,5 +11,5 @@ inner s = record { used = s .used; starts = s .starts; ends = s .ends }
 -- 1 exactly if a statement holds, else 0
 pub record Tells (holds : Type 0) (answer : ℕ) : Type 0 where
   pub yes : holds → answer ≡ 1
-  pub no : (holds → ⊥) → answer ≡ 0
+  pub only : answer ≡ 1 → holds
   pub bit : answer ≤ 1

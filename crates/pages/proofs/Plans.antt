@@ -33,11 +33,11 @@ module _ (L : Ladder) (most limit : ℕ) (m : MultipliesUp L) (s : State) (hs : 
     plans-refused zero e z = absurd (z refl)
     plans-refused (suc n) e z = record {
       unsound = λ r. absurd (r (regions-of L m most (s .starts) (s .ends) hs he h));
-      sound = λ r. (e, ap (λ (k : ℕ). roomOr L most limit k (roomFor L (withRegion L most limit s x y))) e);
+      sound = λ r. (e, ap (λ (k : ℕ). roomOr k (roomFor L (withRegion L s x y))) e);
     }
 
     -- a region that joins the others, and these, are regions of memory
-    joined : Joins L most limit m s h x y → FrameRegions (memory L) (withRegion L most limit s x y)
+    pub joined : Joins L most limit m s h x y → FrameRegions (memory L) (withRegion L s x y)
     joined j =
         let rest = regions-fit L m (s .starts) (s .ends) h in
         let f = spans-frames L m x y (j .spans) in
@@ -48,8 +48,8 @@ module _ (L : Ladder) (most limit : ℕ) (m : MultipliesUp L) (s : State) (hs : 
         → w ≡ roomBy L (record { start = f; end = g } ∷ regionsOf L (s .starts) (s .ends)) → Plans L most limit s x y 0 w
     plans-room f g w e hf hg hw = record {
       unsound = λ r. absurd (r (regions-of L m most (s .starts) (s .ends) hs he h));
-      sound = λ r. (e, words ∙ ap (λ (k : ℕ). roomOr L most limit k (roomFor L (withRegion L most limit s x y))) e);
+      sound = λ r. (e, words ∙ ap (λ (k : ℕ). roomOr k (roomFor L (withRegion L s x y))) e);
     }
       where
-        words : w ≡ roomFor L (withRegion L most limit s x y)
-        words = hw ∙ ap₂ (λ (i j : ℕ). roomBy L (record { start = i; end = j } ∷ regionsOf L (s .starts) (s .ends))) hf hg ∙ room-by L (withRegion L most limit s x y) (joined (joins L most limit m s h x y (sym e)))
+        words : w ≡ roomFor L (withRegion L s x y)
+        words = hw ∙ ap₂ (λ (i j : ℕ). roomBy L (record { start = i; end = j } ∷ regionsOf L (s .starts) (s .ends))) hf hg ∙ room-by L (withRegion L s x y) (joined (joins L most limit m s h x y (sym e)))
