@@ -299,6 +299,22 @@ static void room_for_two_splits(void)
     give_up(&w);
 }
 
+/* A dry pool is exchanged for a longer one: the words in use are copied, and the state stays. */
+static void a_longer_pool_goes_on(void)
+{
+    watched dry = seeded(SEEDED_WORDS, AT, AT + BYTES_2M), longer = lend(SPLIT_WORDS);
+
+    CHECK(acquire_refusal(&dry, PAGE_STORE_4K) == PAGE_STORE_OUT_OF_ROOM);
+    memcpy(longer.pool, dry.pool, (size_t)dry.state.used * sizeof(uint32_t));
+    longer.state = dry.state;
+    CHECK(sound(&longer));
+    CHECK(dealt_base(&longer, PAGE_STORE_4K) == AT);
+    CHECK(release(&longer, AT, PAGE_STORE_4K) == PAGE_STORE_DONE);
+    CHECK(dealt_base(&longer, PAGE_STORE_2M) == AT);
+    give_up(&dry);
+    give_up(&longer);
+}
+
 int main(void)
 {
     RUN(a_page_is_given_back_twice);
@@ -308,6 +324,7 @@ int main(void)
     RUN(the_pool_runs_dry_in_a_split);
     RUN(room_for_one_split);
     RUN(room_for_two_splits);
+    RUN(a_longer_pool_goes_on);
     printf("accidents: %lu calls, %lu checks, all as they should be\n", calls, checks);
     return 0;
 }

@@ -28,7 +28,7 @@ typedef struct region {
 
 static const region memory_map[] = {
     {"bank 0", 0x80000000, 0x80100000},
-    {"bank 1", 0x80100000, 0x80400000}, /* touches bank 0: a page may lie across */
+    {"bank 1", 0x80100000, 0x80400000}, /* touches bank 0: to the store they are one piece of memory */
     {"sram", 0x90000200, 0x90008000},   /* begins inside a page: the store refuses it as it is */
 };
 
@@ -110,7 +110,7 @@ static bool report(const guest *one, const guest *two)
 
 /* ---- Seeding. */
 
-/* The whole pages of 4 KiB in a region. */
+/* The whole pages of 4 KiB in a region; it starts where it ends if there are none. */
 static region whole_pages(const region *r)
 {
     const uint64_t bytes = 4096;
@@ -118,6 +118,8 @@ static region whole_pages(const region *r)
 
     inner.start = (r->start + bytes - 1) / bytes * bytes;
     inner.end = r->end / bytes * bytes;
+    if (inner.end < inner.start)
+        inner.end = inner.start;
     return inner;
 }
 
@@ -126,19 +128,22 @@ static region whole_pages(const region *r)
 static bool choose_words(void)
 {
     static page_store_state planned;
-    page_store_room room = {0, 0};
-    size_t i;
+    page_store_room room = {0, 1};
+    size_t i, regions = 0;
 
     for (i = 0; i < LENGTH(memory_map); i++) {
         region inner = whole_pages(&memory_map[i]);
 
+        if (inner.start == inner.end)
+            continue;
         room = page_store_room_for(planned, inner.start, inner.end);
         if (room.refusal != PAGE_STORE_DONE) {
             say("room", room.refusal);
             return false;
         }
-        planned.starts[i] = inner.start;
-        planned.ends[i] = inner.end;
+        planned.starts[regions] = inner.start;
+        planned.ends[regions] = inner.end;
+        regions++;
     }
     printf("room: %" PRIu64 " pool words suffice, %zu are there\n", room.words, LENGTH(pool));
     if (room.words > LENGTH(pool))
@@ -162,24 +167,26 @@ static uint64_t seed(const char *name, uint64_t start, uint64_t end)
 static bool seed_region(const region *r)
 {
     uint64_t refusal = seed(r->name, r->start, r->end);
+    region inner = whole_pages(r);
 
-    if (refusal == PAGE_STORE_BAD_ALIGNMENT) {
-        region inner = whole_pages(r);
+    if (refusal == PAGE_STORE_BAD_ALIGNMENT && inner.start < inner.end)
         refusal = seed(inner.name, inner.start, inner.end);
-    }
-    return refusal == PAGE_STORE_DONE;
+    return refusal == PAGE_STORE_DONE || inner.start == inner.end;
 }
 
 /* ---- Dealing. */
 
-/* Deals a page of a size to a guest and notes it in the guest's list. Answers the refusal number. */
+/* What `deal` answers where the guest's list is full; no refusal of the store's. */
+#define LIST_FULL UINT64_MAX
+
+/* Deals a page of a size to a guest and notes it in the guest's list. Answers the refusal number, or LIST_FULL. */
 static uint64_t deal(guest *g, uint64_t code)
 {
     page_store_dealt dealt;
 
     if (g->count == MOST_PAGES) { /* asked before the page is taken: it could not be noted */
         printf("guest %d: its list of pages is full\n", g->number);
-        return PAGE_STORE_OUT_OF_PAGES;
+        return LIST_FULL;
     }
     dealt = page_store_acquire(store, pool, words, code);
     store = dealt.state;
@@ -206,7 +213,8 @@ static bool deal_all(guest *g, const uint64_t *codes, size_t count)
     return true;
 }
 
-/* Gives back all pages of a guest that stops. Each leaves the list as it is given back, so that none is given back twice. */
+/* Gives back all pages of a guest that stops. Each leaves the list as it is given back, so that none is given back twice.
+ * A monitor clears the page first: the store touches no memory, and the next guest must not read what this one left. */
 static bool give_back_all(guest *g)
 {
     while (g->count > 0) {

@@ -350,7 +350,8 @@ static void the_longest_pool(void)
     give_up(&w);
 }
 
-/* Lengths above the limit, told of a pool of four words: no word is written. Valgrind sees that none is read behind them. */
+/* Lengths above the limit, told of a pool of four words: they are refused before any word is looked at. Valgrind sees that none is read behind
+ * them. */
 static void longer_than_the_limit(void)
 {
     static const size_t lengths[] = {PAGE_STORE_POOL_LIMIT + 1, UINT32_MAX, SIZE_MAX / 4, SIZE_MAX};
@@ -516,6 +517,42 @@ static void every_number_was_reached(void)
         CHECK(reached[i] > 0);
 }
 
+/* Each size by its name: of all memory, the second page lies its bytes behind the first. */
+static void every_size(void)
+{
+    static const uint64_t codes[] = {PAGE_STORE_4K, PAGE_STORE_16K, PAGE_STORE_2M, PAGE_STORE_1G, PAGE_STORE_512G};
+    static const uint64_t bytes[] = {BYTES_4K, BYTES_16K, BYTES_2M, UINT64_C(1) << 30, UINT64_C(1) << 39};
+    size_t i;
+
+    for (i = 0; i < sizeof codes / sizeof codes[0]; i++) {
+        watched w = seeded(1418, 0, TOP);
+
+        CHECK(dealt_base(&w, codes[i]) == 0);
+        CHECK(report(&w).free == TOP - bytes[i]);
+        CHECK(report(&w).largest == PAGE_STORE_512G);
+        CHECK(dealt_base(&w, codes[i]) == bytes[i]);
+        CHECK(release(&w, bytes[i], codes[i]) == PAGE_STORE_DONE);
+        CHECK(release(&w, 0, codes[i]) == PAGE_STORE_DONE);
+        CHECK(report(&w).largest == PAGE_STORE_128T);
+        give_up(&w);
+    }
+}
+
+/* Pages of 2 MiB alone open nothing below 1 GiB: 1 + 257 + 513 words, and 513 for each GiB touched. */
+static void pages_of_2_mib_alone(void)
+{
+    const uint64_t gib = UINT64_C(1) << 30;
+    const size_t words = 771 + 2 * 513;
+    watched w = seeded(words, AT, AT + 2 * gib);
+    uint64_t i;
+
+    for (i = 0; i < 1024; i++)
+        CHECK(dealt_base(&w, PAGE_STORE_2M) == AT + i * BYTES_2M);
+    CHECK(w.state.used == words);
+    CHECK(acquire_refusal(&w, PAGE_STORE_2M) == PAGE_STORE_OUT_OF_PAGES);
+    give_up(&w);
+}
+
 int main(void)
 {
     RUN(refusals_of_fresh);
@@ -539,6 +576,8 @@ int main(void)
     RUN(as_many_as_room_for_says);
     RUN(a_page_at_zero);
     RUN(all_memory);
+    RUN(every_size);
+    RUN(pages_of_2_mib_alone);
     RUN(the_last_page);
     RUN(the_document);
     RUN(a_bare_pool);

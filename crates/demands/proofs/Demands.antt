@@ -1,16 +1,17 @@
--- THE THREE DEMANDS of the six sizes, and how large a pool must be, with the numbers of document 01. `DemandOne`, `DemandTwo`, `DemandThree`, `Room` and `RoomExact` have them for any ladder of at most 7 codes whose sizes multiply up, and any numbers, `AsOriginal` for one whose sizes are below 2^64.
+-- THE THREE DEMANDS of the six sizes, and how large a pool must be, with the numbers of document 01. `DemandOne`, `DemandTwo`, `DemandThree`, `Room`, `RoomExact` and `GivesBack` have them for any ladder of at most 7 codes whose sizes multiply up, and any numbers, `AsOriginal` for one whose sizes are below 2^64.
 use Rattle.sizes.specs.Six.{six}
 use Rattle.sizes.proofs.Six.{six-multiplies}
 use Rattle.model.proofs.Six.{six-addressable}
 use Rattle.pool.specs.Limits.{places, poolLimit}
 use Rattle.pool.proofs.Sizes.{small-six}
 use Rattle.demands.specs.Demands.{Demand1, Demand2, Demand3}
-use Rattle.demands.specs.Room.{EnoughRoom, NoLess, PlansEnough}
+use Rattle.demands.specs.Room.{EnoughRoom, NoLess, PlansEnough, PlansNoLess, GivesBack}
 use Rattle.demands.proofs.DemandOne as One
 use Rattle.demands.proofs.DemandTwo.{replies-frames, replies-lowest}
 use Rattle.demands.proofs.DemandThree as Three
 use Rattle.demands.proofs.Room as Room
 use Rattle.demands.proofs.RoomExact as Exact
+use Rattle.demands.proofs.GivesBack as Back
 use Rattle.demands.proofs.AsOriginal.{as-original}
 
 pub demand1 : Demand1 six places poolLimit
@@ -37,3 +38,11 @@ no-less = Exact.no-less six places poolLimit six-multiplies small-six
 -- ... and room_for answers as many
 pub plans-enough : PlansEnough six places poolLimit
 plans-enough = Room.plans-enough six places poolLimit six-multiplies small-six
+
+-- ... and no more
+pub plans-no-less : PlansNoLess six places poolLimit
+plans-no-less = Exact.plans-no-less six places poolLimit six-multiplies small-six
+
+-- what was dealt can be given back, whatever the pool
+pub gives-back : GivesBack six places poolLimit
+gives-back = Back.gives-back six places poolLimit six-multiplies small-six

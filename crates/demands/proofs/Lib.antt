@@ -8,6 +8,7 @@ pub mod DemandTwo
 pub mod DemandThree
 pub mod Room
 pub mod RoomExact
+pub mod GivesBack
 pub mod AsOriginal
 pub mod Demands
 pub mod TreeLines

@@ -1,7 +1,7 @@
--- A pool of fewer than `roomFor` words is not enough: seeding the regions and acquiring their frames one by one answers 9. Assumes a ladder of at most 7 codes whose sizes multiply up.
+-- A pool of fewer than `roomFor` words is not enough: seeding the regions and acquiring their frames one by one answers 9; so room_for plans no more than it must. Assumes a ladder of at most 7 codes whose sizes multiply up.
 use mathlib.Core.Path.{_≡_, refl, sym, ap, _∙_, subst}
 use mathlib.Core.Logic.{_≢_}
-use mathlib.Core.Bool.{true, false}
+use mathlib.Core.Bool.{Bool, true, false, true≢false}
 use mathlib.Core.List.{List, [], _∷_, _++_}
 use Prim.Native.Nat.{ℕ, zero, suc, _+_, _*_, _-_, _%_, _≤_, _<_}
 use native.Mathlib.Omega.{arith}
@@ -23,11 +23,16 @@ use Rattle.model.proofs.Frames.{within-in, painted-more, bit-one}
 use Rattle.model.proofs.FrameStore.{bare-iff}
 use Rattle.model.proofs.RoomExact.{Taking, all-free, some-offered, one-fewer, take-next, frame-dealt, taken-room}
 use Rattle.pool.specs.Words.{pack}
+use Rattle.pool.specs.RegionTest.{regionsPass}
+use Rattle.pool.proofs.Regions.{regions-of, regions-if}
 use Rattle.pages.specs.Frames.{isFree}
 use Rattle.pages.specs.Calls.{Store, Reply, SoundStore, shown, served, Replies, freshReply, Places, treeOf}
+use Rattle.pages.specs.Room.{withRegion, regionRefusal, roomOr}
 use Rattle.pages.proofs.Shown.{sound-state, shown-same}
+use Rattle.pages.proofs.SeedTests.{joins}
+use Rattle.pages.proofs.Plans.{joined}
 use Rattle.demands.specs.Demands.{asked, Runs, none, more}
-use Rattle.demands.specs.Room.{Roomy, On, NoLess}
+use Rattle.demands.specs.Room.{Roomy, On, NoLess, PlansNoLess}
 use Rattle.demands.proofs.Acts.{page-frames}
 use Rattle.demands.proofs.Serves.{Steps, step-acts, as-frames, served-steps, served-leaves}
 use Rattle.demands.proofs.DemandTwo.{answer-refused, replies-frames}
@@ -228,3 +233,24 @@ module _ (L : Ladder) (most limit : ℕ) where
               let i = seeds-next s (record { keeps = fresh-keeps L most limit m small p e; regions = fresh-regions L most limit m small p e }) gs k l (y .0) in
               omega (arith, h, acquires-room gs N n t (lent-after N s cs v) (all-free L gs T (sown-free gs t i)) refl (y .1)),
         )
+
+    -- ... SO ROOM_FOR ANSWERS NO MORE WORDS THAN IT MUST
+    pub plans-no-less : PlansNoLess L most limit
+    plans-no-less s hs he a e n w q z p f l = go (regionsPass L (s .starts) (s .ends)) refl
+      where
+        gs : List Region
+        gs = withRegion L s a e
+
+        planned : (k v : ℕ) → n ≡ k → v ≡ roomOr k (roomFor L gs) → v ≡ roomFor L gs
+        planned zero v i j = j
+        planned (suc k) v i j = absurd (omega (arith, z, i))
+
+        -- where the regions are not sound it answered 10
+        go : (x : Bool) → regionsPass L (s .starts) (s .ends) ≡ x
+            → (cs : List Call) × (rs : List Reply) × (t : Store) × Runs L most limit (freshReply L most limit p .store) cs rs t × On L most limit gs cs rs × (Roomy rs → ⊥)
+        go true h =
+            let y = q .sound (regions-of L m most (s .starts) (s .ends) hs he h) in
+            let j = joins L most limit m s h a e (sym (y .0) ∙ z) in
+            let v = planned (regionRefusal L most limit s a e) w (y .0) (y .1) in
+            no-less gs (joined L most limit m s hs he a e h j) (omega (arith, j .few)) p f (omega (arith, v, l))
+        go false h = absurd (omega (arith, z, q .unsound (λ r. true≢false (sym (regions-if L m most (s .starts) (s .ends) hs he r) ∙ h)) .0))

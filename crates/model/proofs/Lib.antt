@@ -16,6 +16,7 @@ pub mod Probes
 pub mod FrameStore
 pub mod Room
 pub mod RoomExact
+pub mod Paths
 pub mod Touched
 pub mod Laws
 pub mod Demand2

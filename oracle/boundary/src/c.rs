@@ -42,7 +42,7 @@ pub(crate) struct Reported {
 /// `page_store_room`.
 #[repr(C)]
 pub(crate) struct Room {
-    pub(crate) refusal: u64,
+    refusal: u64,
     words: u64,
 }
 

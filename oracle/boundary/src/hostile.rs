@@ -44,7 +44,7 @@ pub fn run(candidate: &Candidate, number: u64, calls: u64, watch: &Watch) -> Res
     for tally in &tallies {
         total.add(tally);
     }
-    let missing = if calls < ENOUGH { Vec::new() } else { total.missing(candidate.room_for) };
+    let missing = if calls < ENOUGH { Vec::new() } else { total.missing() };
     let text = total.text();
     if missing.is_empty() {
         return Ok(format!("{text}\nhostile number {number}: {} calls, no difference\n", total.calls()));

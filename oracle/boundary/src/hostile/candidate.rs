@@ -12,8 +12,6 @@ pub struct Candidate<'a> {
     pub answer: Box<Answers<'a>>,
     /// Whether it may be given a length above the limit where no such words are.
     pub any_length: bool,
-    /// Whether it has room_for.
-    pub room_for: bool,
 }
 
 impl Candidate<'_> {
@@ -21,7 +19,7 @@ impl Candidate<'_> {
     pub fn proved() -> Candidate<'static> {
         // SAFETY: only the bench calls it, with words of its own or a length above the limit
         let answer = |ask, state, pool, words| unsafe { c::answer(ask, state, pool, words) };
-        Candidate { answer: Box::new(answer), any_length: true, room_for: true }
+        Candidate { answer: Box::new(answer), any_length: true }
     }
 
     /// Any table of functions, with the reference's room_for. It takes slices, so it is never asked about words that are
@@ -32,6 +30,6 @@ impl Candidate<'_> {
             // SAFETY: only the bench calls it, with words of its own
             answer_of(calls, ask, state, unsafe { std::slice::from_raw_parts_mut(pool, words) })
         };
-        Candidate { answer: Box::new(answer), any_length: false, room_for: true }
+        Candidate { answer: Box::new(answer), any_length: false }
     }
 }

@@ -85,7 +85,7 @@ fn asks(bench: &mut Bench, most: u64) -> Result<(), String> {
         if bench.spent() {
             return Ok(());
         }
-        let next = ask(&mut bench.dice, bench.state, bench.candidate.room_for);
+        let next = ask(&mut bench.dice, bench.state);
         bench.ask(next)?;
     }
     if bench.dice.chance(1, 8) && !bench.spent() {
@@ -118,7 +118,7 @@ fn life(bench: &mut Bench, calls: u64) -> Result<(), String> {
         }
         let next = match bench.dice.below(10) {
             0 => Ask::Check,
-            1 | 2 => ask(&mut bench.dice, bench.state, bench.candidate.room_for),
+            1 | 2 => ask(&mut bench.dice, bench.state),
             _ => generator.next().into(),
         };
         let answer = bench.ask(next)?;
@@ -252,7 +252,7 @@ fn no_words(bench: &mut Bench) -> Result<(), String> {
         let words = long(&mut bench.dice);
         let state = pools::state(&mut bench.dice, words);
         bench.put(state, &pool);
-        let next = ask(&mut bench.dice, state, bench.candidate.room_for);
+        let next = ask(&mut bench.dice, state);
         let next = if bench.dice.chance(1, 6) { Ask::Fresh } else { next };
         let nowhere = bench.dice.chance(1, 2);
         bench.ask_above_the_limit(next, words, nowhere)?;

@@ -76,10 +76,10 @@ fn release(dice: &mut Dice, state: State) -> Ask {
     }
 }
 
-/// Any call but fresh on a store of the state; room_for only if it is there to be called.
-pub fn ask(dice: &mut Dice, state: State, room_for: bool) -> Ask {
+/// Any call but fresh on a store of the state.
+pub fn ask(dice: &mut Dice, state: State) -> Ask {
     let (start, end) = region(dice, state);
-    match dice.below(if room_for { 13 } else { 12 }) {
+    match dice.below(13) {
         0..=2 => Ask::Seed { start, end },
         3..=5 => Ask::Acquire { code: code(dice) },
         6..=9 => release(dice, state),

@@ -77,11 +77,10 @@ impl Tally {
     }
 
     /// Refusals that no call got, and calls of which too few were accepted.
-    pub fn missing(&self, room_for: bool) -> Vec<String> {
-        let kinds = if room_for { NAMES.len() } else { NAMES.len() - 1 };
+    pub fn missing(&self) -> Vec<String> {
         let mut missing = Vec::new();
-        for place in 0..kinds {
-            let (name, kind) = (NAMES[place], &self.kinds[place]);
+        for (place, name) in NAMES.into_iter().enumerate() {
+            let kind = &self.kinds[place];
             if kind.accepted == 0 || kind.accepted * SHARE < kind.calls {
                 missing.push(format!("{name} was accepted {} times of {}", kind.accepted, kind.calls));
             }

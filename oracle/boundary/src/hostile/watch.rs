@@ -108,7 +108,7 @@ impl Watch {
     }
 
     /// Ends the program, with a message, once a call takes longer than the limit. Never returns.
-    pub fn guard(&self, limit: Duration) {
+    pub fn guard(&self, limit: Duration) -> ! {
         loop {
             std::thread::sleep(Duration::from_millis(500));
             let late = self.late(limit);
