@@ -6,8 +6,9 @@
  *
  * The caller owns everything. The state is a value: pass the last one that you got, and keep the one that you get back, also when the call
  * is refused. The pool is an array of 32-bit words that you lend for the time of a call: `pool` points to `words` of them. Between calls
- * nobody may write it; its place and length may change, if its first `used` words are kept. The store keeps no pointer, allocates nothing, writes nothing outside the pool, and has no globals: two stores
- * are two states and two pools. It has no lock: at most one call at a time on one store.
+ * nobody may write it; its place and length may change, if its first `used` words are kept. The store keeps no pointer, allocates nothing,
+ * writes nothing outside the pool, and has no globals: two stores are two states and two pools. It has no lock: at most one call at a time
+ * on one store.
  *
  * Any numbers may be passed, in any state and over any pool words: each call returns. What cannot be tested is the pointer: it must be
  * aligned to 4 bytes, and `words` words must be there to be read and written. NULL with 0 words is refused as any empty pool is, and a
@@ -18,7 +19,8 @@
  * state, and refused it hands back zeros; room_for hands no state back.)
  *
  * Each call but fresh and room_for first checks the whole used part of the pool, which takes some 10 ns for each used word: 0.1 ms at
- * 16,384, 4 ms at 395,012. Unused words cost nothing. What is not sound gets PAGE_STORE_UNSOUND. Not all damage is seen: overwritten words, or an old state, can happen to be another sound store.
+ * 16,384, 4 ms at 395,012. Unused words cost nothing. What is not sound gets PAGE_STORE_UNSOUND. Not all damage is seen: overwritten words,
+ * or an old state, can happen to be another sound store.
  */
 #ifndef PAGE_STORE_H
 #define PAGE_STORE_H
