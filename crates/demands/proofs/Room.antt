@@ -43,6 +43,11 @@ roomy-dec : (rs : List Reply) → Dec (Roomy rs)
 roomy-dec [] = yes tt
 roomy-dec (r ∷ rs) = Dec·and (Dec·not (ℕ-discrete (r .refusal) 9)) (roomy-dec rs)
 
+-- the words of a plan that is not refused
+pub planned : (n k v w : ℕ) → n ≡ 0 → n ≡ k → v ≡ roomOr k w → v ≡ w
+planned n zero v w z i j = j
+planned n (suc k) v w z i j = absurd (omega (arith, z, i))
+
 -- a seed asks for frames in G
 abbrev Seeds : (G : ℕ → Bool) → Call → Type 0
 Seeds G (seed a e) = Wholly G a (e - a) true
@@ -222,12 +227,8 @@ module _ (L : Ladder) (most limit : ℕ) (m : MultipliesUp L) (small : suc (top 
       gs : List Region
       gs = withRegion L s a e
 
-      planned : (k v : ℕ) → n ≡ k → v ≡ roomOr k (roomFor L gs) → v ≡ roomFor L gs
-      planned zero v i j = j
-      planned (suc k) v i j = absurd (omega (arith, z, i))
-
       by : Regions L most (s .starts) (s .ends) → Roomy rs
-      by h = let x = planned (regionRefusal L most limit s a e) w (q .sound h .0) (q .sound h .1) in enough-room gs p f (omega (arith, x, l)) cs rs t u o
+      by h = let x = planned n (regionRefusal L most limit s a e) w (roomFor L gs) z (q .sound h .0) (q .sound h .1) in enough-room gs p f (omega (arith, x, l)) cs rs t u o
 
       -- where the regions are not sound it answered 10
       go : Dec (Roomy rs) → Roomy rs

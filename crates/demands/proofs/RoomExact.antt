@@ -27,7 +27,7 @@ use Rattle.pool.specs.RegionTest.{regionsPass}
 use Rattle.pool.proofs.Regions.{regions-of, regions-if}
 use Rattle.pages.specs.Frames.{isFree}
 use Rattle.pages.specs.Calls.{Store, Reply, SoundStore, shown, served, Replies, freshReply, Places, treeOf}
-use Rattle.pages.specs.Room.{withRegion, regionRefusal, roomOr}
+use Rattle.pages.specs.Room.{withRegion, regionRefusal}
 use Rattle.pages.proofs.Shown.{sound-state, shown-same}
 use Rattle.pages.proofs.SeedTests.{joins}
 use Rattle.pages.proofs.Plans.{joined}
@@ -38,6 +38,7 @@ use Rattle.demands.proofs.Serves.{Steps, step-acts, as-frames, served-s
 use Rattle.demands.proofs.DemandTwo.{answer-refused, replies-frames}
 use Rattle.demands.proofs.DemandThree.{Keeps, keeps-next, fresh-keeps, fresh-regions}
 use Rattle.demands.proofs.Rooted.{fresh-fits, fresh-is}
+use Rattle.demands.proofs.Room.{planned}
 
 module _ (L : Ladder) (most limit : ℕ) where
   -- ---- the replies to calls, one after the other
@@ -241,16 +242,12 @@ module _ (L : Ladder) (most limit : ℕ) where
         gs : List Region
         gs = withRegion L s a e
 
-        planned : (k v : ℕ) → n ≡ k → v ≡ roomOr k (roomFor L gs) → v ≡ roomFor L gs
-        planned zero v i j = j
-        planned (suc k) v i j = absurd (omega (arith, z, i))
-
         -- where the regions are not sound it answered 10
         go : (x : Bool) → regionsPass L (s .starts) (s .ends) ≡ x
             → (cs : List Call) × (rs : List Reply) × (t : Store) × Runs L most limit (freshReply L most limit p .store) cs rs t × On L most limit gs cs rs × (Roomy rs → ⊥)
         go true h =
             let y = q .sound (regions-of L m most (s .starts) (s .ends) hs he h) in
             let j = joins L most limit m s h a e (sym (y .0) ∙ z) in
-            let v = planned (regionRefusal L most limit s a e) w (y .0) (y .1) in
+            let v = planned n (regionRefusal L most limit s a e) w (roomFor L gs) z (y .0) (y .1) in
             no-less gs (joined L most limit m s hs he a e h j) (omega (arith, j .few)) p f (omega (arith, v, l))
         go false h = absurd (omega (arith, z, q .unsound (λ r. true≢false (sym (regions-if L m most (s .starts) (s .ends) hs he r) ∙ h)) .0))
