@@ -18,8 +18,8 @@
  * NOTHING: the state handed back is the one passed, no pool word is changed, and all other fields of the answer are 0. (fresh is passed no
  * state, and refused it hands back zeros; room_for hands no state back.)
  *
- * Each call but fresh and room_for first checks the whole used part of the pool, which takes some 10 ns for each used word: 0.1 ms at
- * 16,384, 4 ms at 395,012. Unused words cost nothing. What is not sound gets PAGE_STORE_UNSOUND. Not all damage is seen: overwritten words,
+ * Each call but fresh and room_for first checks the whole used part of the pool, which took 5 to 12 ns for each used word where it was
+ * measured: 0.1 to 0.2 ms at 16,384, 2.4 to 4.5 ms at 395,012. Unused words cost nothing. What is not sound gets PAGE_STORE_UNSOUND. Not all damage is seen: overwritten words,
  * or an old state, can happen to be another sound store.
  */
 #ifndef PAGE_STORE_H

@@ -299,6 +299,19 @@ static void room_for_two_splits(void)
     give_up(&w);
 }
 
+/* 16 KiB and two pages of 4 KiB behind it, and no word left: the lowest page of 4 KiB lies in the 16 KiB, which cannot be split, so those behind
+ * it are not dealt before the 16 KiB are. */
+static void the_lowest_page_wins(void)
+{
+    watched w = seeded(1418, AT, AT + BYTES_16K + 2 * BYTES_4K);
+
+    CHECK(w.state.used == w.words);
+    CHECK(acquire_refusal(&w, PAGE_STORE_4K) == PAGE_STORE_OUT_OF_ROOM);
+    CHECK(dealt_base(&w, PAGE_STORE_16K) == AT);
+    CHECK(dealt_base(&w, PAGE_STORE_4K) == AT + BYTES_16K);
+    give_up(&w);
+}
+
 /* A dry pool is exchanged for a longer one: the words in use are copied, and the state stays. */
 static void a_longer_pool_goes_on(void)
 {
@@ -324,6 +337,7 @@ int main(void)
     RUN(the_pool_runs_dry_in_a_split);
     RUN(room_for_one_split);
     RUN(room_for_two_splits);
+    RUN(the_lowest_page_wins);
     RUN(a_longer_pool_goes_on);
     printf("accidents: %lu calls, %lu checks, all as they should be\n", calls, checks);
     return 0;
