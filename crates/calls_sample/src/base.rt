@@ -1,8 +1,11 @@
 // Base stores: reading one, keeping its first words, and putting them back.
 use crate::kept::Kept;
+use crate::link::Link;
 use crate::numbers::MOST;
 use crate::{kept, numbers, text};
 use pages::State;
+use std::io;
+use std::io::{Read, Write};
 
 // How many words the array has: one more than a pool may have.
 pub const CAPACITY: usize = 1048577;
@@ -13,29 +16,32 @@ pub const SPARE: usize = 8192;
 // Writes one word so many times from a place on, up to the array's end, and answers the place behind.
 fn write_run(array: &mut [u32; CAPACITY], at: usize, count: u64, word: u32) -> usize {
     let mut to = at;
-    let mut left = count;
-    while left > 0 {
+    for _ in 0..count {
         if to >= CAPACITY {
             return CAPACITY;
         }
         array[to] = word;
         to += 1;
-        left -= 1;
     }
     to
 }
 
 // Reads so many runs, a count and a word each, and writes their words; no where they do not add up to the words of the pool.
-fn read_runs(array: &mut [u32; CAPACITY], words: usize, runs: u64) -> bool {
+fn read_runs<R: Read, W: Write>(
+    link: &mut Link<R, W>,
+    array: &mut [u32; CAPACITY],
+    words: usize,
+    runs: u64,
+) -> io::Result<bool> {
     let mut at: usize = 0;
     for _ in 0..runs {
         let mut run = [0u64; MOST];
-        if !numbers::read(&mut run, 2) {
-            return false;
+        if !numbers::read(link, &mut run, 2)? {
+            return Ok(false);
         }
         at = write_run(array, at, run[0], numbers::word(run[1]));
     }
-    at == words
+    Ok(at == words)
 }
 
 // Keeps the first words.
@@ -61,21 +67,26 @@ fn state_of(n: &[u64; MOST]) -> State {
 }
 
 // Reads a base store and writes its name on a line of its own. Its first words are kept.
-pub fn read(kept: Kept, array: &mut [u32; CAPACITY], spare: &mut [u32; SPARE]) -> Kept {
+pub fn read<R: Read, W: Write>(
+    link: &mut Link<R, W>,
+    kept: Kept,
+    array: &mut [u32; CAPACITY],
+    spare: &mut [u32; SPARE],
+) -> io::Result<Kept> {
     let mut next = kept;
     next.waiting = 0;
-    if !text::name(kept.waiting) {
-        return kept::wrong(next);
+    if !text::name(link, kept.waiting)? {
+        return Ok(kept::wrong(next));
     }
-    text::text(b"\n");
+    text::text(link, b"\n")?;
     let mut fixed = [0u64; MOST];
-    if !numbers::read(&mut fixed, 19) {
-        return kept::wrong(next);
+    if !numbers::read(link, &mut fixed, 19)? {
+        return Ok(kept::wrong(next));
     }
     let words = fixed[0] as usize;
-    if !read_runs(array, words, fixed[18]) {
-        return kept::wrong(next);
+    if !read_runs(link, array, words, fixed[18])? {
+        return Ok(kept::wrong(next));
     }
     keep(array, spare);
-    kept::new(state_of(&fixed), words, false)
+    Ok(kept::new(state_of(&fixed), words, false))
 }

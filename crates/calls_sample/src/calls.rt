@@ -3,8 +3,11 @@ ghost use Rattle.std.specs.Prelude.{◌≤◌, length};
 
 use crate::base::CAPACITY;
 use crate::kept::Kept;
+use crate::link::Link;
 use crate::{digest, kept, numbers, text};
 use pages::State;
+use std::io;
+use std::io::{Read, Write};
 
 // The kinds of calls, as the list has them.
 pub const FRESH: usize = 10;
@@ -20,7 +23,7 @@ pub const REPORT: usize = 14;
 pub const CHECK: usize = 15;
 
 // A call: its kind, and its numbers in their order, an address as the list has it.
-#[derive(Drop)]
+#[derive(Clone, Copy)]
 pub struct Ask {
     pub kind: usize,
     pub first: u64,
@@ -37,7 +40,7 @@ pub fn plain(kind: usize) -> Ask {
 }
 
 // What a call answers: the refusal, the state, and its results, behind which are zeros.
-#[derive(Drop)]
+#[derive(Clone, Copy)]
 struct Answer {
     refusal: u64,
     state: State,
@@ -125,67 +128,89 @@ fn fold(before: u64, pool: &[u32], answer: Answer) -> u64 {
 }
 
 // Writes the name of a call.
-fn write_name(kind: usize) {
+fn write_name<R: Read, W: Write>(link: &mut Link<R, W>, kind: usize) -> io::Result<()> {
     match kind {
-        FRESH => text::text(b" fresh"),
-        SEED => text::text(b" seed"),
-        ACQUIRE => text::text(b" acquire"),
-        RELEASE => text::text(b" release"),
-        REPORT => text::text(b" report"),
-        _ => text::text(b" check"),
+        FRESH => text::text(link, b" fresh"),
+        SEED => text::text(link, b" seed"),
+        ACQUIRE => text::text(link, b" acquire"),
+        RELEASE => text::text(link, b" release"),
+        REPORT => text::text(link, b" report"),
+        _ => text::text(link, b" check"),
     }
 }
 
 // Writes the line of a call: its number, name, refusal and results; of a check its verdict in the refusal's place.
-fn write_line(number: u64, kind: usize, answer: Answer) {
-    text::decimal(number);
-    write_name(kind);
+fn write_line<R: Read, W: Write>(
+    link: &mut Link<R, W>,
+    number: u64,
+    kind: usize,
+    answer: Answer,
+) -> io::Result<()> {
+    text::decimal(link, number)?;
+    write_name(link, kind)?;
     if kind == CHECK {
-        text::number(answer.first);
+        text::number(link, answer.first)?;
     } else {
-        text::number(answer.refusal);
+        text::number(link, answer.refusal)?;
     }
     if kind == ACQUIRE {
-        text::number(answer.first);
-        text::number(answer.second);
+        text::number(link, answer.first)?;
+        text::number(link, answer.second)?;
     }
     if kind == REPORT {
-        text::number(answer.first);
-        text::number(answer.second);
-        text::number(answer.third);
-        text::number(answer.fourth);
+        text::number(link, answer.first)?;
+        text::number(link, answer.second)?;
+        text::number(link, answer.third)?;
+        text::number(link, answer.fourth)?;
     }
-    text::text(b"\n");
+    text::text(link, b"\n")?;
+    Ok(())
 }
 
 // Makes a call. The pool is the whole of the store's pool.
-fn made(kept: Kept, pool: &mut [u32], ask: Ask) -> Kept {
+fn made<R: Read, W: Write>(
+    link: &mut Link<R, W>,
+    kept: Kept,
+    pool: &mut [u32],
+    ask: Ask,
+) -> io::Result<Kept> {
     let answer = answer_to(kept.state, pool, ask);
     let state = answer.state;
     let mut next = kept::with_store(kept, state, kept.words);
-    next.calls = std::num::wrapping_add_u64(kept.calls, 1);
+    next.calls = kept.calls.wrapping_add(1);
     next.digest = fold(kept.digest, pool, answer);
     next.last = answer.first;
     if kept.loud {
-        write_line(next.calls, ask.kind, answer);
+        write_line(link, next.calls, ask.kind, answer)?;
     }
-    next
+    Ok(next)
 }
 
 // A part is lent of a slice, not of an array behind a reference.
-fn make_first(kept: Kept, array: &mut [u32], words: usize, ask: Ask) -> Kept
+fn make_first<R: Read, W: Write>(
+    link: &mut Link<R, W>,
+    kept: Kept,
+    array: &mut [u32],
+    words: usize,
+    ask: Ask,
+) -> io::Result<Kept>
     requires { words ≤ length array.old }
 {
-    made(kept, &mut array[..words], ask)
+    made(link, kept, &mut array[..words], ask)
 }
 
 // Makes a call on the store in the first words of the array.
-pub fn make(kept: Kept, array: &mut [u32; CAPACITY], ask: Ask) -> Kept {
+pub fn make<R: Read, W: Write>(
+    link: &mut Link<R, W>,
+    kept: Kept,
+    array: &mut [u32; CAPACITY],
+    ask: Ask,
+) -> io::Result<Kept> {
     let words = kept.words;
     if words > CAPACITY {
-        return kept::wrong(kept);
+        return Ok(kept::wrong(kept));
     }
-    make_first(kept, array, words, ask)
+    make_first(link, kept, array, words, ask)
 }
 
 // Whether the check says yes so many times.
@@ -206,30 +231,39 @@ fn always_first(state: State, array: &[u32], words: usize, times: u64) -> bool
 }
 
 // Adds one verdict: whether the check says yes each time. The times are those of the checks alone.
-pub fn repeat(kept: Kept, array: &[u32; CAPACITY], times: u64) -> Kept {
+pub fn repeat<R: Read, W: Write>(
+    link: &mut Link<R, W>,
+    kept: Kept,
+    array: &[u32; CAPACITY],
+    times: u64,
+) -> io::Result<Kept> {
     let words = kept.words;
     if words > CAPACITY {
-        return kept::wrong(kept);
+        return Ok(kept::wrong(kept));
     }
     let mut next = kept;
     let verdict = always_first(kept.state, array, words, times);
-    next.waiting = text::digit(kept.waiting, verdict);
-    next
+    next.waiting = text::digit(link, kept.waiting, verdict)?;
+    Ok(next)
 }
 
 // Ends a store: adds its whole pool to the digest, and writes how many calls there were and the digest.
-pub fn end(kept: Kept, array: &[u32; CAPACITY]) -> Kept {
+pub fn end<R: Read, W: Write>(
+    link: &mut Link<R, W>,
+    kept: Kept,
+    array: &[u32; CAPACITY],
+) -> io::Result<Kept> {
     let words = kept.words;
     if words > CAPACITY {
-        return kept::wrong(kept);
+        return Ok(kept::wrong(kept));
     }
     let mut next = kept;
     next.digest = digest::words(kept.digest, array, words);
-    text::end(kept.waiting);
+    text::end(link, kept.waiting)?;
     next.waiting = 0;
-    text::decimal(next.calls);
-    text::text(b" calls, digest");
-    text::number(next.digest);
-    text::text(b"\n");
-    next
+    text::decimal(link, next.calls)?;
+    text::text(link, b" calls, digest")?;
+    text::number(link, next.digest)?;
+    text::text(link, b"\n")?;
+    Ok(next)
 }

@@ -15,7 +15,7 @@ const BEHIND: usize = 3072;
 // The digest with a number added.
 pub fn step(digest: u64, number: u64) -> u64 {
     let mixed = digest ^ number;
-    let spread = std::num::wrapping_add_u64(mixed, mixed << 21);
+    let spread = mixed.wrapping_add(mixed << 21);
     spread ^ (spread >> 29)
 }
 

@@ -4,8 +4,11 @@ ghost use Rattle.std.specs.Prelude.{◌≤◌};
 use crate::base::CAPACITY;
 use crate::calls::Ask;
 use crate::kept::Kept;
+use crate::link::Link;
 use crate::numbers::MOST;
 use crate::{calls, damage, kept, numbers, text};
+use std::io;
+use std::io::{Read, Write};
 
 // Writes words that grow by a step to the first places.
 fn fill(array: &mut [u32; CAPACITY], words: usize, first: u32, step: u32)
@@ -14,96 +17,119 @@ fn fill(array: &mut [u32; CAPACITY], words: usize, first: u32, step: u32)
     let mut word = first;
     for i in 0..words {
         array[i] = word;
-        word = std::num::wrapping_add_u32(word, step);
+        word = word.wrapping_add(step);
     }
 }
 
 // Reads the beginning of a journal: its name, whether each call gets a line, how many words its pool has, the first of
 // them and by how much each next one is larger. The state is of zeros.
-pub fn begin(kept: Kept, array: &mut [u32; CAPACITY]) -> Kept {
+pub fn begin<R: Read, W: Write>(
+    link: &mut Link<R, W>,
+    kept: Kept,
+    array: &mut [u32; CAPACITY],
+) -> io::Result<Kept> {
     let mut next = kept;
     next.waiting = 0;
-    if !text::name(kept.waiting) {
-        return kept::wrong(next);
+    if !text::name(link, kept.waiting)? {
+        return Ok(kept::wrong(next));
     }
     let mut n = [0u64; MOST];
-    if !numbers::read(&mut n, 4) {
-        return kept::wrong(next);
+    if !numbers::read(link, &mut n, 4)? {
+        return Ok(kept::wrong(next));
     }
     let loud = n[0] == 1;
     if loud {
-        text::text(b"\n");
+        text::text(link, b"\n")?;
     } else {
-        text::text(b": ");
+        text::text(link, b": ")?;
     }
     let words = n[1] as usize;
     if words > CAPACITY {
-        return kept::wrong(next);
+        return Ok(kept::wrong(next));
     }
     fill(array, words, numbers::word(n[2]), numbers::word(n[3]));
-    kept::blank(words, loud)
+    Ok(kept::blank(words, loud))
 }
 
 // Reads a field and a mask, and changes the field.
-pub fn set_field(kept: Kept) -> Kept {
+pub fn set_field<R: Read, W: Write>(link: &mut Link<R, W>, kept: Kept) -> io::Result<Kept> {
     let mut n = [0u64; MOST];
-    if !numbers::read(&mut n, 2) {
-        return kept::wrong(kept);
+    if !numbers::read(link, &mut n, 2)? {
+        return Ok(kept::wrong(kept));
     }
-    damage::change_field(kept, n[0], n[1])
+    Ok(damage::change_field(kept, n[0], n[1]))
 }
 
 // Reads a place and a word, and writes it.
-pub fn set_word(kept: Kept, array: &mut [u32; CAPACITY]) -> Kept {
+pub fn set_word<R: Read, W: Write>(
+    link: &mut Link<R, W>,
+    kept: Kept,
+    array: &mut [u32; CAPACITY],
+) -> io::Result<Kept> {
     let mut n = [0u64; MOST];
-    if !numbers::read(&mut n, 2) {
-        return kept::wrong(kept);
+    if !numbers::read(link, &mut n, 2)? {
+        return Ok(kept::wrong(kept));
     }
     let at = n[0] as usize;
     if at >= CAPACITY {
-        return kept::wrong(kept);
+        return Ok(kept::wrong(kept));
     }
     array[at] = numbers::word(n[1]);
-    kept
+    Ok(kept)
 }
 
 // Reads a call with two numbers and makes it.
-fn with_two(kept: Kept, array: &mut [u32; CAPACITY], kind: usize) -> Kept {
+fn with_two<R: Read, W: Write>(
+    link: &mut Link<R, W>,
+    kept: Kept,
+    array: &mut [u32; CAPACITY],
+    kind: usize,
+) -> io::Result<Kept> {
     let mut n = [0u64; MOST];
-    if !numbers::read(&mut n, 2) {
-        return kept::wrong(kept);
+    if !numbers::read(link, &mut n, 2)? {
+        return Ok(kept::wrong(kept));
     }
     let ask = Ask {
         kind,
         first: n[0],
         second: n[1],
     };
-    calls::make(kept, array, ask)
+    calls::make(link, kept, array, ask)
 }
 
 // Reads a call with one number and makes it.
-fn with_one(kept: Kept, array: &mut [u32; CAPACITY], kind: usize) -> Kept {
-    let first = numbers::next();
+fn with_one<R: Read, W: Write>(
+    link: &mut Link<R, W>,
+    kept: Kept,
+    array: &mut [u32; CAPACITY],
+    kind: usize,
+) -> io::Result<Kept> {
+    let first = numbers::next(link)?;
     if !first.right {
-        return kept::wrong(kept);
+        return Ok(kept::wrong(kept));
     }
     let ask = Ask {
         kind,
         first: first.value,
         second: 0,
     };
-    calls::make(kept, array, ask)
+    calls::make(link, kept, array, ask)
 }
 
 // Reads the numbers of a call of the kind and makes it; there is no other kind.
-pub fn call(kept: Kept, array: &mut [u32; CAPACITY], kind: usize) -> Kept {
+pub fn call<R: Read, W: Write>(
+    link: &mut Link<R, W>,
+    kept: Kept,
+    array: &mut [u32; CAPACITY],
+    kind: usize,
+) -> io::Result<Kept> {
     match kind {
-        calls::FRESH => calls::make(kept, array, calls::plain(kind)),
-        calls::SEED => with_two(kept, array, kind),
-        calls::ACQUIRE => with_one(kept, array, kind),
-        calls::RELEASE => with_two(kept, array, kind),
-        calls::REPORT => calls::make(kept, array, calls::plain(kind)),
-        calls::CHECK => calls::make(kept, array, calls::plain(kind)),
-        _ => kept::wrong(kept),
+        calls::FRESH => calls::make(link, kept, array, calls::plain(kind)),
+        calls::SEED => with_two(link, kept, array, kind),
+        calls::ACQUIRE => with_one(link, kept, array, kind),
+        calls::RELEASE => with_two(link, kept, array, kind),
+        calls::REPORT => calls::make(link, kept, array, calls::plain(kind)),
+        calls::CHECK => calls::make(link, kept, array, calls::plain(kind)),
+        _ => Ok(kept::wrong(kept)),
     }
 }

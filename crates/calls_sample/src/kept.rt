@@ -1,9 +1,12 @@
 // What is kept from record to record.
+use crate::link::Link;
 use crate::{digest, text};
 use pages::State;
+use std::io;
+use std::io::{Read, Write};
 
 // The calls that each damaged store is asked, and whether it is.
-#[derive(Drop)]
+#[derive(Clone, Copy)]
 pub struct Questions {
     pub asked: bool,
     pub start: u64,
@@ -15,7 +18,7 @@ pub struct Questions {
 
 // The store: its state, and how many words of the array its pool has. The calls since it began, their digest, and the
 // first result of the last. Whether each call gets a line, how many digits the line has, and whether the list is right so far.
-#[derive(Drop)]
+#[derive(Clone, Copy)]
 pub struct Kept {
     pub state: State,
     pub words: usize,
@@ -74,10 +77,10 @@ pub fn wrong(kept: Kept) -> Kept {
 }
 
 // Adds the verdict of the last call, which is a check.
-pub fn verdict(kept: Kept) -> Kept {
+pub fn verdict<R: Read, W: Write>(link: &mut Link<R, W>, kept: Kept) -> io::Result<Kept> {
     let mut next = kept;
-    next.waiting = text::digit(kept.waiting, kept.last == 1);
-    next
+    next.waiting = text::digit(link, kept.waiting, kept.last == 1)?;
+    Ok(next)
 }
 
 // The same with another state and so many words.

@@ -1,8 +1,10 @@
 // Reading standard input: bytes, and numbers of seven bits a byte, the lowest first, where all bytes but the last have their high bit set.
 ghost use Rattle.std.specs.Prelude.{◌<◌, ◌≤◌};
 
-use libc::STDIN_FILENO;
+use crate::link::Link;
 use sizes::Address;
+use std::io;
+use std::io::{Read, Write};
 
 // What `byte` answers where the input has ended: no byte is so large.
 pub const END: usize = 256;
@@ -11,7 +13,7 @@ pub const END: usize = 256;
 pub const MOST: usize = 19;
 
 // A number, and whether the input had it whole.
-#[derive(Drop)]
+#[derive(Clone, Copy)]
 pub struct Number {
     pub value: u64,
     pub right: bool,
@@ -25,51 +27,54 @@ fn wide(x: u8) -> usize
 }
 
 // The next byte, or `END`.
-pub fn byte() -> usize {
+pub fn byte<R: Read, W: Write>(link: &mut Link<R, W>) -> io::Result<usize> {
     let mut s = [0u8; 1];
-    if io::read_full(STDIN_FILENO, &mut s) == 1 {
-        wide(s[0])
+    if link.input.read(&mut s)? == 1 {
+        Ok(wide(s[0]))
     } else {
-        END
+        Ok(END)
     }
 }
 
 // The next number.
-pub fn next() -> Number {
+pub fn next<R: Read, W: Write>(link: &mut Link<R, W>) -> io::Result<Number> {
     let mut value: u64 = 0;
-    let mut shift: u32 = 0;
-    while shift < 64 {
-        let b = byte() as u64;
+    for i in 0..10 {
+        let shift: u32 = 7 * i;
+        let b = byte(link)? as u64;
         if b >= END as u64 {
-            return Number {
+            return Ok(Number {
                 value,
                 right: false,
-            };
+            });
         }
         value = value | ((b & 127) << shift);
         if b < 128 {
-            return Number { value, right: true };
+            return Ok(Number { value, right: true });
         }
-        shift += 7;
     }
-    Number {
+    Ok(Number {
         value,
         right: false,
-    }
+    })
 }
 
 // Reads so many numbers; no where the input ends before.
-pub fn read(into: &mut [u64; MOST], count: usize) -> bool
+pub fn read<R: Read, W: Write>(
+    link: &mut Link<R, W>,
+    into: &mut [u64; MOST],
+    count: usize,
+) -> io::Result<bool>
     requires { count ≤ 19 }
 {
     for i in 0..count {
-        let got = next();
+        let got = next(link)?;
         if !got.right {
-            return false;
+            return Ok(false);
         }
         into[i] = got.value;
     }
-    true
+    Ok(true)
 }
 
 // The low 32 bits of a number.

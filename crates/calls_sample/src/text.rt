@@ -1,6 +1,8 @@
 // Lines of standard output.
+use crate::link::Link;
 use crate::numbers;
-use libc::{STDIN_FILENO, STDOUT_FILENO};
+use std::io;
+use std::io::{Read, Write};
 
 // How long a name may be.
 const NAME: u64 = 64;
@@ -9,67 +11,73 @@ const NAME: u64 = 64;
 const FULL: u64 = 64;
 
 // Writes some text.
-pub fn text(s: &[u8]) {
-    io::write_all(STDOUT_FILENO, s);
+pub fn text<R: Read, W: Write>(link: &mut Link<R, W>, s: &[u8]) -> io::Result<()> {
+    link.output.write_all(s)
 }
 
 // Writes a number.
-pub fn decimal(n: u64) {
-    io::print_decimal(STDOUT_FILENO, n);
+pub fn decimal<R: Read, W: Write>(link: &mut Link<R, W>, n: u64) -> io::Result<()> {
+    write!(link.output, "{n}")
 }
 
 // Writes a number behind a space.
-pub fn number(n: u64) {
-    text(b" ");
-    decimal(n);
+pub fn number<R: Read, W: Write>(link: &mut Link<R, W>, n: u64) -> io::Result<()> {
+    text(link, b" ")?;
+    decimal(link, n)?;
+    Ok(())
 }
 
 // Ends the line of digits, if it has any.
-pub fn end(waiting: u64) {
+pub fn end<R: Read, W: Write>(link: &mut Link<R, W>, waiting: u64) -> io::Result<()> {
     if waiting > 0 {
-        text(b"\n");
+        text(link, b"\n")?;
     }
+    Ok(())
 }
 
 // Writes a verdict as a digit, and answers how many digits the line has now. A full line is ended.
-pub fn digit(waiting: u64, verdict: bool) -> u64 {
+pub fn digit<R: Read, W: Write>(
+    link: &mut Link<R, W>,
+    waiting: u64,
+    verdict: bool,
+) -> io::Result<u64> {
     if verdict {
-        text(b"1");
+        text(link, b"1")?;
     } else {
-        text(b"0");
+        text(link, b"0")?;
     }
     if waiting < FULL - 1 {
-        return waiting + 1;
+        return Ok(waiting + 1);
     }
-    text(b"\n");
-    0
+    text(link, b"\n")?;
+    Ok(0)
 }
 
 // Copies a byte from input to output; no where the input has ended.
-fn copy_byte() -> bool {
+fn copy_byte<R: Read, W: Write>(link: &mut Link<R, W>) -> io::Result<bool> {
     let mut s = [0u8; 1];
-    if io::read_full(STDIN_FILENO, &mut s) != 1 {
-        return false;
+    if link.input.read(&mut s)? != 1 {
+        return Ok(false);
     }
-    text(&s);
-    true
+    text(link, &s)?;
+    Ok(true)
 }
 
 // Ends the line of digits, reads a name, its length before it, and writes it; no where it is too long or cut.
-pub fn name(waiting: u64) -> bool {
-    end(waiting);
-    let length = numbers::next();
+pub fn name<R: Read, W: Write>(link: &mut Link<R, W>, waiting: u64) -> io::Result<bool> {
+    end(link, waiting)?;
+    let length = numbers::next(link)?;
     if !length.right {
-        return false;
+        return Ok(false);
     }
     if length.value > NAME {
-        return false;
+        return Ok(false);
     }
     let count = length.value;
     for _ in 0..count {
-        if !copy_byte() {
-            return false;
+        if !copy_byte(link)? {
+            return Ok(false);
         }
     }
-    true
+    Ok(true)
 }

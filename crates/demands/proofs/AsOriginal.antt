@@ -1,4 +1,5 @@
 -- Demand 2 beside the original: after the same calls from a fresh store it never panics, and each page dealt and each 'out of pages' is its own. Assumes a ladder of at most 7 codes whose sizes multiply up and are below 2^64.
+use Rattle.std.specs.Prelude.{if◌then◌else◌}
 use mathlib.Core.Path.{◌≡◌, refl, sym, ap, ap₂, ◌∙◌, subst, fun_ext}
 use mathlib.Core.Bool.{Bool, true, false, cond}
 use mathlib.Core.List.{List, [], ◌∷◌}
@@ -10,7 +11,7 @@ use Rattle.sizes.specs.Laws.{MultipliesUp}
 use Rattle.model.specs.Ladder.{top}
 use Rattle.model.specs.Calls.{Call, seed, acquire, release, report, Answer, refused}
 use Rattle.model.specs.TreeStore.{State as TreeState, fresh as fresh_tree, step}
-use Rattle.model.specs.Rust.{if◌then◌else◌, Ends, gives, ◌>>=◌}
+use Rattle.model.specs.Rust.{Ends, gives, ◌>>=◌}
 use Rattle.model.specs.Original.{empty_allocator}
 use Rattle.model.specs.AsOriginal.{may_make, Said, Told, Addressable, Allocator, original, told, originals, tellings, transcript}
 use Rattle.model.proofs.AsOriginal.{skipped-originals, skipped-tellings}

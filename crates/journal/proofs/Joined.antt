@@ -1,9 +1,9 @@
 -- Entries that a read's end cuts are joined: an entry that is not cut short is the same whatever follows it. Assumes nothing.
-use mathlib.Core.Path.{◌≡◌, refl, sym, ap, ◌∙◌}
+use mathlib.Core.Path.{◌≡◌, refl, ap, ◌∙◌}
 use mathlib.Core.Logic.{◌≢◌}
 use mathlib.Core.Bool.{Bool, true, false, cond}
 use mathlib.Core.List.{List, [], ◌∷◌, ◌++◌}
-use Prim.Native.Nat.{ℕ, ◌+◌, ◌-◌, ◌≤◌}
+use Prim.Native.Nat.{ℕ, ◌+◌, ◌≤◌}
 use native.Mathlib.Omega.{arith}
 use lib.Dec.{leb, eqb}
 use lib.ListN.{length, take, drop, length-append, length-drop}
@@ -11,7 +11,7 @@ use lib.Seq.{take-append-le, drop-append-le}
 use borrow.Author.Tests.{le-leb, leb-true}
 use Rattle.journal.specs.declared.Entry.{Entry}
 use Rattle.journal.specs.declared.Entry.TheVariants.{Report, Bad, End}
-use Rattle.journal.specs.Entries.{number, whole, seed_body, acquire_body, release_body, seed_of, acquire_of, release_of, entry_of, read_at}
+use Rattle.journal.specs.Entries.{whole, seed_body, acquire_body, release_body, seed_of, acquire_of, release_of, entry_of, read_at}
 
 -- a body that is not cut short is whole
 uncut : (n : ℕ) (s : List ℕ) (e : Entry) → whole n s e ≢ Bad 13 → n ≤ length s

@@ -1,8 +1,8 @@
 -- What a journal does is a run of calls; from a sound store every journal is replayed to its end. Assumes nothing.
 use mathlib.Core.Path.{◌≡◌, refl, sym, ap, ap₂, subst}
-use mathlib.Core.Logic.{◌⊎◌, inl, inr}
+use mathlib.Core.Logic.{inl, inr}
 use mathlib.Core.Bool.{false}
-use mathlib.Core.List.{List, [], ◌∷◌, ◌++◌}
+use mathlib.Core.List.{List, [], ◌∷◌}
 use Prim.Native.Nat.{ℕ, zero, suc, ◌+◌, ◌-◌, ◌≤◌, ◌<◌}
 use native.Mathlib.Omega.{arith}
 use lib.ListN.{length}
@@ -11,7 +11,7 @@ use Rattle.sizes.proofs.Six.{six-multiplies}
 use Rattle.model.specs.Calls.{Call, seed, acquire, release, report}
 use Rattle.pool.specs.Limits.{places, pool_limit}
 use Rattle.pool.proofs.Sizes.{small-six}
-use Rattle.pages.specs.Calls.{Store, Reply, Places, SoundStore, Replies, served, fresh_reply}
+use Rattle.pages.specs.Calls.{Store, Places, SoundStore, Replies, served, fresh_reply}
 use Rattle.demands.specs.Demands.{Runs, none, more, Kept, sown, held}
 use Rattle.demands.proofs.Serves.{served-leaves}
 use Rattle.demands.proofs.Demands.{demand3}

@@ -1,5 +1,5 @@
 -- A journal's entries (document 01, 'Journal'): each is one byte of kind, then a body whose length the kind fixes.
-use Rattle.std.specs.Prelude.{Bool, true, false, cond, List, [], ◌∷◌, ℕ, zero, suc, ◌+◌, ◌*◌, leb, eqb, length, take, drop}
+use Rattle.std.specs.Prelude.{cond, List, [], ◌∷◌, ℕ, ◌+◌, ◌*◌, leb, eqb, length, take, drop}
 use Rattle.sizes.specs.declared.Address.{Address}
 use Rattle.journal.specs.declared.Entry.{Entry}
 use Rattle.journal.specs.declared.Entry.TheVariants.{Seed, Acquire, Release, Report, Bad, End}

@@ -1,5 +1,5 @@
 -- One step of a journal on a store (document 01, 'Journal'): which call an entry asks for, what is left of the store, and the numbers of the line.
-use Rattle.std.specs.Prelude.{◌≡◌, List, ℕ, drop}
+use Rattle.std.specs.Prelude.{◌≡◌, List, ℕ}
 use Rattle.sizes.specs.Six.{six}
 use Rattle.model.specs.Calls.{Call, seed, acquire, release, report}
 use Rattle.pool.specs.Limits.{places, pool_limit}
@@ -8,7 +8,7 @@ use Rattle.journal.specs.declared.Entry.{Entry}
 use Rattle.journal.specs.declared.Entry.TheVariants.{Seed, Acquire, Release, Report, Bad, End}
 use Rattle.journal.specs.declared.Line.{Line}
 use Rattle.journal.specs.declared.Line.TheVariants.{Seed as SeedLine, Acquire as AcquireLine, Release as ReleaseLine, Report as ReportLine, Bad as BadLine, End as NoLine}
-use Rattle.journal.specs.Entries.{entry_of, read_at}
+use Rattle.journal.specs.Entries.{read_at}
 
 -- a line is the entry's name, refusal number and results: base and probes of an acquire; seeded bytes, free bytes, largest and used words of a report
 abbrev pub line_of : Call → Reply → Line

@@ -1,4 +1,6 @@
 // The journal of document 01: an entry is read from lent bytes, and one step makes its call on a state and a lent pool.
+#![tactic(auto)]
+
 mod text;
 
 ghost use Rattle.std.specs.Prelude.{◌≡◌, ◌+◌, ◌≤◌, ◌<◌, length, take, drop};
@@ -32,7 +34,7 @@ const UNKNOWN_KIND: u32 = 12;
 pub const CUT_SHORT: u32 = 13;
 
 // An entry: a call with its numbers (start and end; code; base and code), the refusal of bytes that are none, or nothing left.
-#[derive(Drop)]
+#[derive(Clone, Copy)]
 pub enum Entry {
     Seed(Address, Address),
     Acquire(u8),
@@ -43,14 +45,14 @@ pub enum Entry {
 }
 
 // An entry, and the index behind it. Behind what is none nothing is left: the index is the journal's length.
-#[derive(Drop)]
+#[derive(Clone, Copy)]
 pub struct Reading {
     pub entry: Entry,
     pub next: usize,
 }
 
 // The numbers of an entry's line: the refusal, then the results (base and probes; seeded bytes, free bytes, largest and used words).
-#[derive(Drop)]
+#[derive(Clone, Copy)]
 pub enum Line {
     Seed(u32),
     Acquire(u32, Address, usize),
@@ -61,7 +63,7 @@ pub enum Line {
 }
 
 // What a step gives: the state, the numbers of the line, and the index of the next entry.
-#[derive(Drop)]
+#[derive(Clone, Copy)]
 pub struct Stepped {
     pub state: State,
     pub line: Line,
@@ -69,7 +71,7 @@ pub struct Stepped {
 }
 
 // The state and the line that an entry gives.
-#[derive(Drop)]
+#[derive(Clone, Copy)]
 pub struct Served {
     pub state: State,
     pub line: Line,

@@ -15,7 +15,7 @@ use Rattle.model.specs.Calls.{Call, seed, acquire, release, report, refuse, verd
 use Rattle.model.specs.Tree.{empty, largest, store, remove}
 use Rattle.model.specs.TreeStore.{apart, seed_from, State, fresh, picked, act, lacks_room, tests, step}
 use Rattle.model.specs.Demands.{shown, SoundState}
-use Rattle.model.specs.Rust.{◌>>=◌, gives, ok, err}
+use Rattle.model.specs.Rust.{gives, ok, err}
 use Rattle.model.specs.StandIns.{TooMuchMemory, OutOfPages, init}
 use Rattle.model.specs.Original.{empty_allocator}
 use Rattle.model.specs.AsOriginal.{may_make, Said, Addressable, address, Allocator, original, told, originals, tellings, transcript, AsOriginal}

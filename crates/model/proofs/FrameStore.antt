@@ -83,7 +83,7 @@ first_below-first p (suc n) = go (p 0) refl (first_below-first (λ i. p (suc i))
     go true e r = rw (e, first_below) (record { passes = λ h. e; before = λ j h. absurd (omega arith); ends = omega arith })
     go false e r = rw (e, first_below) (record {
       passes = λ h. r.passes (le_of_suc-le-suc h);
-      before = λ j. elim j [ zero ↦ λ h. e | suc i ↦ λ h. r.before i (le_of_suc-le-suc h) ];
+      before = λ j. elim j as (λ k. k < suc (first_below (λ i. p (suc i)) n) → p k ≡ false) [ zero ↦ λ h. e | suc i ↦ λ h. r.before i (le_of_suc-le-suc h) ];
       ends = omega (arith, r.ends);
     })
 

@@ -44,7 +44,7 @@ module _ {A : Type 0} where
       go : (b : Bool) → leb c (g x) ≡ b → (c ≤ maximum g xs → First g c xs z (first (λ y. leb c (g y)) xs)) → First g c (x ∷ xs) z (first (λ y. leb c (g y)) (x ∷ xs))
       go true e ih = rw (e, first) (record { in_range = omega arith; reaches = leb-true c (g x) e; before = λ j k. absurd (omega arith) })
       go false e ih = let r = ih (omega (arith, leb-false c (g x) e)) in
-          rw (e, first) (record { in_range = omega (arith, r.in_range); reaches = r.reaches; before = λ j. elim j [ zero ↦ λ k. leb-false c (g x) e | suc i ↦ λ k. r.before i (le_of_suc-le-suc k) ] })
+          rw (e, first) (record { in_range = omega (arith, r.in_range); reaches = r.reaches; before = λ j. elim j as (λ n. n < suc (first (λ y. leb c (g y)) xs) → g (get_or (x ∷ xs) n z) < c) [ zero ↦ λ k. leb-false c (g x) e | suc i ↦ λ k. r.before i (le_of_suc-le-suc k) ] })
 
   -- all pass: each does
   pub all_true : (p : A → Bool) (xs : List A) (z : A) → all p xs ≡ true → (i : ℕ) → i < length xs → p (get_or xs i z) ≡ true

@@ -1,7 +1,6 @@
 -- The original's add_memory_region is the tree's seeding: its loops come to an end, it never panics, and it gives the picture of the tree after. Assumes nothing.
 use mathlib.Core.Path.{◌≡◌, refl, sym, ap, ◌∙◌}
 use mathlib.Core.Bool.{Bool, true, false, ◌&&◌, not}
-use mathlib.Core.Option.{some}
 use mathlib.Core.List.{List, [], ◌∷◌}
 use Prim.Native.Nat.{ℕ, zero, suc, ◌+◌, ◌*◌, ◌-◌, ◌%◌, ◌≤◌, ◌<◌}
 use native.Mathlib.Omega.{arith}
@@ -16,7 +15,7 @@ use Rattle.model.specs.Frames.{Wholly}
 use Rattle.model.specs.Tree.{Tree, largest, free, Sound, store, remove, pick}
 use Rattle.model.specs.TreeStore.{largest_fit, seed_from}
 use Rattle.model.specs.Laws.{BlockIn, Made}
-use Rattle.model.specs.Rust.{◌>>=◌, ◌>>◌, Ends, gives, minus, is_some, ok, err, for_each, while}
+use Rattle.model.specs.Rust.{◌>>=◌, Ends, gives, minus, is_some, ok, err, for_each, while}
 use Rattle.model.specs.StandIns.{TooMuchMemory, OutOfPages, coded, is_bounded, Page, init}
 use Rattle.model.specs.Original.{find_largest_page_size, store_page_token, region_loop, add_memory_region, acquire_page, release_pages}
 use Rattle.model.specs.AsOriginal.{Addressable}

@@ -15,7 +15,7 @@ use Rattle.model.specs.Frames.{Wholly}
 use Rattle.model.specs.Lists.{maximum}
 use Rattle.model.specs.Tree.{node, Tree, empty, mark, child, largest, merge, free, Sound, opened, handed_on, store}
 use Rattle.model.specs.Laws.{BlockIn, Made}
-use Rattle.model.specs.Rust.{◌>>=◌, ◌>>◌, gives, word}
+use Rattle.model.specs.Rust.{gives, word}
 use Rattle.model.specs.StandIns.{init}
 use Rattle.model.specs.Original.{store_page_token_in_this_node, child_address_and_size, store_page_token}
 use Rattle.model.proofs.Ladder.{frames-pos, smaller-suc}

@@ -1,12 +1,12 @@
 -- Demand 2, 'after the same accepted calls from a fresh store, each page dealt and each "out of pages" is the Rust's': the statement on trees.
-use Rattle.std.specs.Prelude.{◌≡◌, Bool, true, false, List, [], ◌∷◌, ℕ, suc, ◌*◌, ◌≤◌, ◌<◌, eqb}
+use Rattle.std.specs.Prelude.{if◌then◌else◌, ◌≡◌, Bool, true, false, List, [], ◌∷◌, ℕ, suc, ◌*◌, ◌≤◌, ◌<◌, eqb}
 use Rattle.std.proofs.Math.Option.{Option, none, some}
 use Rattle.sizes.specs.Ladder.{Ladder, smallest, largest, bytes}
 use Rattle.sizes.specs.Laws.{MultipliesUp}
 use Rattle.model.specs.Ladder.{top}
 use Rattle.model.specs.Calls.{Call, seed, acquire, release, report, Answer, refused, stored, dealt, reported}
 use Rattle.model.specs.TreeStore.{State, fresh, step}
-use Rattle.model.specs.Rust.{if◌then◌else◌, Ends, gives, ◌>>=◌, word, Result, ok, err, map_ok}
+use Rattle.model.specs.Rust.{Ends, gives, ◌>>=◌, word, Result, ok, err, map_ok}
 use Rattle.model.specs.StandIns.{Error, TooMuchMemory, OutOfPages, Page, init}
 use Rattle.model.specs.Original.{PageAllocator, empty_allocator, add_memory_region, acquire_page, release_pages}
 

@@ -1,10 +1,10 @@
--- The original's allocator (allocator.rs of IBM/ACE-RISCV) on values, function by function, in its order as far as a definition stands before its use. A name in «» is the Rust's.
+-- The original's allocator (allocator.rs of IBM/ACE-RISCV) on values, function by function, in its order as far as a definition stands before its use. Names are the Rust's, but for `token_of`, `max_of`, `empty_node`, `empty_allocator` and `region_loop`.
 -- Each assert, unwrap, index and step of arithmetic of the Rust is here and may end in `panics`, as does a loop that has no turns left. Sizes are codes of a ladder, addresses are in bytes.
-use Rattle.std.specs.Prelude.{◌&&◌, not, List, [], ℕ, zero, suc, ◌+◌, ◌-◌, ◌%◌, leb, ltb, eqb, length, set, replicate}
+use Rattle.std.specs.Prelude.{if◌then◌else◌, ◌&&◌, not, List, [], ℕ, zero, suc, ◌+◌, ◌-◌, ◌%◌, leb, ltb, eqb, length, set, replicate}
 use Rattle.std.proofs.Math.Option.{Option, none, some}
 use Rattle.sizes.specs.Ladder.{Ladder, smallest, largest, bytes, fan_out, smaller, larger}
 use Rattle.model.specs.Lists.{all}
-use Rattle.model.specs.Rust.{if◌then◌else◌, Ends, panics, gives, ◌>>=◌, ◌>>◌, assert, plus, times, minus, over, is_some, unwrap, at_least, max_option, Result, ok, unwrap_ok, ensure, element, is_empty, position, max_of_all, map_collect, for_each, while}
+use Rattle.model.specs.Rust.{Ends, panics, gives, ◌>>=◌, ◌>>◌, assert, plus, times, minus, over, is_some, unwrap, at_least, max_option, Result, ok, unwrap_ok, ensure, element, is_empty, position, max_of_all, map_collect, for_each, while}
 use Rattle.model.specs.StandIns.{Error, TooMuchMemory, OutOfPages, coded, is_bounded, Page, init, divide, merge_pages}
 
 -- a node, for the type of its children

@@ -1,5 +1,5 @@
 -- The words of Rust that the original uses, on values: statements one after the other, panics, and what the library's Option, Result and Vec answer.
-use Rattle.std.specs.Prelude.{Bool, true, false, List, [], ◌∷◌, ℕ, zero, suc, ◌+◌, ◌*◌, ◌-◌, ◌/◌, ◌^◌, max, leb, ltb, length}
+use Rattle.std.specs.Prelude.{if◌then◌else◌, Bool, true, false, List, [], ◌∷◌, ℕ, zero, suc, ◌+◌, ◌*◌, ◌-◌, ◌/◌, ◌^◌, max, leb, ltb, length}
 use Rattle.std.proofs.Math.Option.{Option, none, some}
 use Rattle.model.specs.Lists.{first}
 
@@ -16,12 +16,6 @@ abbrev pub ◌>>=◌ : {A B : Type 0} → Ends A → (A → Ends B) → Ends B
 abbrev pub ◌>>◌ : {A B : Type 0} → Ends A → Ends B → Ends B
 ◌>>◌ panics y = panics
 ◌>>◌ (gives a) y = y
-
--- if test { x } else { y }
-infix 1 if◌then◌else◌
-abbrev pub if◌then◌else◌ : {A : Type 0} → Bool → A → A → A
-if◌then◌else◌ true x y = x
-if◌then◌else◌ false x y = y
 
 -- assert!(test)
 abbrev pub assert : Bool → Ends (Unit {0})

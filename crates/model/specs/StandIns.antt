@@ -1,4 +1,4 @@
--- What the original's allocator needs of the rest of the monitor, as small as in the oracle's stand_ins.rs. A page size is its code, an address is in bytes; a name in «» is the Rust's.
+-- What the original's allocator needs of the rest of the monitor, as small as in the oracle's stand_ins.rs. A page size is its code, an address is in bytes; `start_address` is the Rust's name.
 use Rattle.std.specs.Prelude.{Bool, List, ℕ, zero, suc, ◌+◌, ◌%◌, ltb, eqb}
 use Rattle.std.proofs.Math.Option.{Option, none, some}
 use Rattle.sizes.specs.Ladder.{Ladder, bytes, smaller}

@@ -1,4 +1,6 @@
 // The page store for C: each call of pages, with structs and numbers that C can declare.
+#![tactic(auto)]
+
 ghost use Rattle.std.specs.Prelude.{◌≡◌};
 ghost use Rattle.sizes.specs.Six.{six};
 ghost use Rattle.model.specs.Calls.{seed as seeds, acquire as acquires, release as releases, report as reports};
@@ -12,7 +14,7 @@ use sizes::Address;
 
 // The state of pages. Every field of these structs is 8 bytes wide, so there is no padding.
 #[repr(C)]
-#[derive(Drop)]
+#[derive(Clone, Copy)]
 pub struct StoreState {
     pub used: usize,
     pub starts: [u64; PLACES],
@@ -21,7 +23,7 @@ pub struct StoreState {
 
 // The answer of a seed, a release and fresh: the refusal number, 0 for none.
 #[repr(C)]
-#[derive(Drop)]
+#[derive(Clone, Copy)]
 pub struct StoreDone {
     pub refusal: u64,
     pub state: StoreState,
@@ -29,7 +31,7 @@ pub struct StoreDone {
 
 // The answer of an acquire: the page's base in bytes, and how many children were looked at.
 #[repr(C)]
-#[derive(Drop)]
+#[derive(Clone, Copy)]
 pub struct StoreDealt {
     pub refusal: u64,
     pub state: StoreState,
@@ -39,7 +41,7 @@ pub struct StoreDealt {
 
 // The answer of a report: seeded bytes, free bytes, the code of the largest free page, used words.
 #[repr(C)]
-#[derive(Drop)]
+#[derive(Clone, Copy)]
 pub struct StoreReported {
     pub refusal: u64,
     pub state: StoreState,
@@ -51,7 +53,7 @@ pub struct StoreReported {
 
 // The answer of room_for: the refusal number, 0 for none, and the most pool words that the regions can take.
 #[repr(C)]
-#[derive(Drop)]
+#[derive(Clone, Copy)]
 pub struct StoreRoom {
     pub refusal: u64,
     pub words: u64,

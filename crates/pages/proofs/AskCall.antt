@@ -8,7 +8,7 @@ use native.Mathlib.Omega.{arith}
 use lib.Dec.{leb, ltb, eqb}
 use lib.ListN.{length, set}
 use borrow.Author.Tests.{ltb-true, ltb-false, leb-true, leb-false, eqb-true, eqb-false, le-ltb, lt-leb, le-leb, not-true, not-false}
-use Rattle.sizes.specs.Ladder.{smallest, largest as largest_code, bytes, code, frame_address, address_frame, fan_out, frames as frames_in}
+use Rattle.sizes.specs.Ladder.{smallest, largest as largest_code, bytes, code, frame_address, address_frame}
 use Rattle.sizes.specs.Six.{six}
 use Rattle.sizes.proofs.Six.{six-multiplies, largest-most, bytes-largest, bytes_most}
 use Rattle.model.specs.Ladder.{frames, top}

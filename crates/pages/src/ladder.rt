@@ -9,7 +9,7 @@ ghost use Rattle.pool.specs.Words.{fan_out_of, frames_of};
 use sizes::{Frame, Place};
 
 // The child of a node that holds a frame: its place, and the frame counted from the child's first.
-#[derive(Drop)]
+#[derive(Clone, Copy)]
 pub struct Toward {
     pub child: Place,
     pub within: Frame,

@@ -1,4 +1,6 @@
 // The page store: six calls on a state by value and a lent pool, and room_for on a state alone, each on any numbers and words. Its private modules hold the tests and what walks the pool.
+#![tactic(auto)]
+
 mod call;
 mod ladder;
 mod node;
@@ -22,7 +24,7 @@ use sizes::Address;
 pub const PLACES: usize = 8;
 
 // The used count, and the regions in seeding order from the first place; unused places are zero.
-#[derive(Drop)]
+#[derive(Clone, Copy)]
 pub struct State {
     pub used: usize,
     pub starts: [u64; PLACES],
@@ -30,14 +32,14 @@ pub struct State {
 }
 
 // The answer of a seed, a release and fresh: the refusal number, 0 for none.
-#[derive(Drop)]
+#[derive(Clone, Copy)]
 pub struct Done {
     pub refusal: u32,
     pub state: State,
 }
 
 // The answer of an acquire: the page's base, and how many children were looked at.
-#[derive(Drop)]
+#[derive(Clone, Copy)]
 pub struct Dealt {
     pub refusal: u32,
     pub state: State,
@@ -46,7 +48,7 @@ pub struct Dealt {
 }
 
 // The answer of a report: seeded bytes, free bytes, the code of the largest free page, used words.
-#[derive(Drop)]
+#[derive(Clone, Copy)]
 pub struct Reported {
     pub refusal: u32,
     pub state: State,
@@ -57,7 +59,7 @@ pub struct Reported {
 }
 
 // The answer of room_for: the refusal number, 0 for none, and the most pool words that the regions can take.
-#[derive(Drop)]
+#[derive(Clone, Copy)]
 pub struct RoomFor {
     pub refusal: u32,
     pub words: u64,

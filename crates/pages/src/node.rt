@@ -10,7 +10,7 @@ use crate::word::{link_of, max_of, narrow, pack, token_marks, token_of, wide, wi
 use sizes::{Frame, Place};
 
 // What an acquire leaves: the used count, the block's first frame counted from the node's, and how many children were looked at.
-#[derive(Drop)]
+#[derive(Clone, Copy)]
 pub struct Acquired {
     pub used: usize,
     pub base: Frame,

@@ -14,7 +14,7 @@ use borrow.Author.Tests.{eqb-true, eqb-false}
 use Rattle.sizes.specs.Ladder.{Ladder}
 use Rattle.model.proofs.Count.{free_frames-count}
 use Rattle.model.proofs.Frames.{count-le}
-use Rattle.model.specs.Frames.{bit, count}
+use Rattle.model.specs.Frames.{bit}
 use Rattle.model.specs.Ladder.{fan, frames}
 use Rattle.model.specs.Lists.{maximum, sum}
 use Rattle.model.specs.Tree.{Sound as SoundTree}

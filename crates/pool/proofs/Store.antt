@@ -22,7 +22,6 @@ use Rattle.pool.specs.View.{block, tab, view}
 use Rattle.pool.specs.Words.{fan_out_of, first_child, has_token, link_of, max_of, word}
 use Rattle.pool.specs.Asks.{Maxed}
 use Rattle.pool.specs.Blocks.{Child, Readable}
-use Rattle.pool.proofs.Blocks.{here}
 use Rattle.pool.proofs.Max.{Merged, children-maxed, largest-marked, maxed-mark, merge-done, open-maxed}
 use Rattle.pool.proofs.Step.{Step, child-agree, child-own, child-step, readable-child, step-readable, step-trans}
 use Rattle.pool.proofs.Tree.{tab-at, tab-set}

@@ -6,7 +6,6 @@ use native.Mathlib.Nat.{add-zero, zero-add}
 use native.Mathlib.Omega.{arith}
 use Rattle.pool.specs.Words.{sum_over}
 use Rattle.pool.specs.Blocks.{In}
-use Rattle.pool.specs.Check.{max_below}
 
 pub sum-cong : (a n : ℕ) (f g : ℕ → ℕ) → ((x : ℕ) → In a n x → f x ≡ g x) → sum_over a n f ≡ sum_over a n g
 unfolding sum_over

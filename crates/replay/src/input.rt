@@ -1,15 +1,15 @@
-// Standard input, by a buffer.
-ghost use Rattle.std.specs.Prelude.{◌≡◌, ◌+◌, ◌≤◌, length};
+// The journal's bytes, by a buffer.
+ghost use Rattle.std.specs.Prelude.{◌≡◌, ◌+◌, ◌≤◌, length, IfOk};
 
 use crate::BUFFER;
-use libc::STDIN_FILENO;
+use std::io;
+use std::io::Read;
 
-// What is read: where it ends in the buffer, and whether the input has ended or cannot be read.
-#[derive(Drop)]
+// What is read: where it ends in the buffer, and whether the input has ended.
+#[derive(Clone, Copy)]
 pub struct Filled {
     pub to: usize,
     pub ended: bool,
-    pub failed: bool,
 }
 
 // Moves the bytes from an index up to another to the buffer's start, and answers how many there are.
@@ -29,32 +29,28 @@ fn keep(bytes: &mut [u8; BUFFER], from: usize, to: usize) -> usize
     left
 }
 
-// Reads once, behind the bytes up to an index, and answers as `libc::read` does.
-fn read_behind(bytes: &mut [u8], to: usize) -> isize
+// Reads once, behind the bytes up to an index, and answers how many bytes came. The error is the read's.
+fn read_behind<R: Read>(input: &mut R, bytes: &mut [u8], to: usize) -> io::Result<usize>
     requires { to ≤ length bytes.old }
+    ensures { IfOk result (λ n. to + n ≤ length bytes.old) }
 {
-    libc::read(STDIN_FILENO, &mut bytes[to..])
+    input.read(&mut bytes[to..])
 }
 
-// The smaller of two numbers.
-fn least(a: usize, b: usize) -> usize
-    ensures { result ≤ b }
-{
-    if a < b { a } else { b }
-}
-
-// Keeps what is left of the buffer, from an index up to another, and reads once behind it. A read that fails is told of.
-pub fn refill(bytes: &mut [u8; BUFFER], from: usize, end: usize) -> Filled
-    ensures { result.to ≤ 4096 }
+// Keeps what is left of the buffer, from an index up to another, and reads once behind it. The error is the read's; what is left is
+// kept all the same, and what lies behind it may be anything.
+pub fn refill<R: Read>(
+    input: &mut R,
+    bytes: &mut [u8; BUFFER],
+    from: usize,
+    end: usize,
+) -> io::Result<Filled>
+    ensures { IfOk result (λ filled. filled.to ≤ 4096) }
 {
     let left = keep(bytes, from, end);
-    let got = read_behind(bytes, left);
-    if got < 0 {
-        os::fail(b"replay: standard input");
-    }
-    Filled {
-        to: left + least(io::count(got, bytes), BUFFER - left),
+    let got = read_behind(input, bytes, left)?;
+    Ok(Filled {
+        to: left + got,
         ended: got == 0,
-        failed: got < 0,
-    }
+    })
 }

@@ -1,29 +1,21 @@
-// Standard output, by a buffer.
+// The printed lines, by a buffer.
 ghost use Rattle.std.specs.Prelude.{◌≤◌, length};
 
 use crate::BUFFER;
-use libc::STDOUT_FILENO;
+use std::io;
+use std::io::Write;
 
-// Writes the bytes of a buffer up to an index; no where they cannot be written.
-fn write_first(text: &[u8], full: usize) -> bool
+// Writes the bytes of a buffer up to an index.
+fn write_first<W: Write>(output: &mut W, text: &[u8], full: usize) -> io::Result<()>
     requires { full ≤ length text.now }
 {
-    io::write_all(STDOUT_FILENO, &text[..full])
+    output.write_all(&text[..full])
 }
 
-// Says that the output cannot be written.
-pub fn fail() {
-    os::fail(b"replay: standard output");
-}
-
-// Writes what waits in the buffer; where it cannot be written, says so and answers no.
-pub fn flush(text: &[u8; BUFFER], full: usize) -> bool {
+// Writes what waits in the buffer. The error is the write's; some of it may be written then.
+pub fn flush<W: Write>(output: &mut W, text: &[u8; BUFFER], full: usize) -> io::Result<()> {
     if full > BUFFER {
-        return false;
+        return Ok(());
     }
-    if write_first(text, full) {
-        return true;
-    }
-    fail();
-    false
+    write_first(output, text, full)
 }

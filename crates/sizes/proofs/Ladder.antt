@@ -1,9 +1,9 @@
 -- The laws of any ladder whose sizes multiply up, each once over the code. Assumes nothing.
 use mathlib.Core.Path.{◌≡◌, refl, sym, ap, ◌∙◌, subst}
-use mathlib.Core.Bool.{Bool, true, false, ◌&&◌, cond, and-eq-true_iff, and-false, false≢true}
-use Prim.Native.Nat.{ℕ, zero, suc, ◌+◌, ◌*◌, ◌-◌, ◌/◌, ◌%◌, ◌≤◌, ◌<◌, ◌∣◌, min}
+use mathlib.Core.Bool.{Bool, true, false, cond, and-eq-true_iff, and-false, false≢true}
+use Prim.Native.Nat.{ℕ, zero, suc, ◌+◌, ◌*◌, ◌-◌, ◌/◌, ◌%◌, ◌≤◌, ◌<◌, ◌∣◌}
 use native.Mathlib.Omega.{arith}
-use native.Mathlib.Nat.{mul-pos, mul-le-mul_right, mul-lt-mul_of_pos_right, mul_assoc, mul_comm, mul-div_cancel, div-le_of_le-mul, min-eq_left, dvd_refl, dvd_trans, dvd-mul_left, dvd-mul_left_of_dvd, dvd_of_mod-eq-zero, mod-eq-zero_of_dvd, div-lt_iff_lt-mul, div-add-mod', mod-lt}
+use native.Mathlib.Nat.{mul-pos, mul-le-mul_right, mul-lt-mul_of_pos_right, mul_assoc, mul_comm, mul-div_cancel, div-le_of_le-mul, min-eq_left, dvd_refl, dvd_trans, dvd-mul_left_of_dvd, dvd_of_mod-eq-zero, mod-eq-zero_of_dvd, div-lt_iff_lt-mul, div-add-mod', mod-lt}
 use native.Mathlib.Decide.{le_ind, ℕ_discrete}
 use lib.Dec.{leb, ltb, eqb}
 use borrow.Author.Tests.{lt-ltb, le-ltb, le-leb, lt-leb, eq-eqb, ne_eqb, eqb-true, leb-true}

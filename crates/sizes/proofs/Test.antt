@@ -1,5 +1,5 @@
 -- Tests that antt computes over a table, and the laws that turn each into the fact at every code. Assumes nothing.
-use mathlib.Core.Path.{◌≡◌, subst, sym}
+use mathlib.Core.Path.{subst, sym}
 use mathlib.Core.Logic.{⊎_elim}
 use mathlib.Core.Bool.{Bool, true, false, ◌&&◌}
 use mathlib.Core.List.{List, [], ◌∷◌}

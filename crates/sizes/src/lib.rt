@@ -1,23 +1,25 @@
 // Page sizes by code, as the original's `page_size.rs` has them, and its small arithmetic of nodes and children.
 // Every function answers on any numbers; 0 is the code of no size.
+#![tactic(auto, unfolding(crate::specs::Ladder::largest, crate::specs::Ladder::bytes, crate::specs::Ladder::fan_out, crate::specs::Ladder::frames, crate::specs::Ladder::code, crate::specs::Ladder::smaller, crate::specs::Ladder::larger, crate::specs::Ladder::child_index, crate::specs::Ladder::is_child, crate::specs::Ladder::child_address, crate::specs::Ladder::child_size, crate::specs::Ladder::frame_address, crate::specs::Ladder::address_frame))]
+
 ghost use Rattle.std.specs.Prelude.{◌≡◌, ◌-◌, ◌≤◌, min};
 ghost use Rattle.sizes.specs.Ladder.{bytes, fan_out, largest as largest_of, smallest as smallest_of, code as code_of, smaller as smaller_of, larger as larger_of, child_index, child_address, child_size, largest_at, frame_address, address_frame};
 ghost use Rattle.sizes.specs.Six.{six, most_code, most_bytes, most_children};
 
 // The number of a 4 KiB frame.
-#[derive(Drop)]
+#[derive(Clone, Copy)]
 pub struct Frame(pub u64);
 
 // An address in bytes.
-#[derive(Drop)]
+#[derive(Clone, Copy)]
 pub struct Address(pub u64);
 
 // A place in the pool. Nothing turns it into a frame or an address.
-#[derive(Drop)]
+#[derive(Clone, Copy)]
 pub struct Place(pub usize);
 
 // A child of a node: its base address and its size.
-#[derive(Drop)]
+#[derive(Clone, Copy)]
 pub struct Child {
     pub address: Address,
     pub size: usize,
@@ -149,6 +151,7 @@ fn bytes_before(a: u64, n: u64, e: u64) -> u64
 }
 
 // The largest size whose page is aligned at the address and ends at or before end; 0 where none does.
+#[tactic(auto, using(crate::proofs::Six::turns), unfolding(crate::specs::Ladder::largest_at, crate::specs::Ladder::largest))]
 pub fn find_largest_page_size(address: Address, end: Address) -> usize
     ensures { (result ≡ largest_at six address.0 end.0) × (result ≤ most_code) }
 {

@@ -1,53 +1,46 @@
 // Prints what `sizes` says of every size, of some children, and of the rows of standard input: an address and an end each, little-endian.
 // The expected lines are the original Rust's (`oracle sizes`).
-ghost use Rattle.std.specs.Prelude.{◌+◌, ◌≤◌, ◌<◌, ◌≡◌, length};
+#![tactic(auto)]
 
-use libc::{STDIN_FILENO, STDOUT_FILENO};
+ghost use Rattle.std.specs.Prelude.{◌+◌, ◌≤◌, length, IfOk};
+
 use sizes::Address;
+use std::io;
+use std::io::Read;
 
-fn word(text: &[u8]) {
-    io::write_all(STDOUT_FILENO, text);
-}
+// How many bytes of rows are read.
+const ROOM: usize = 65536;
 
-fn number(n: u64) {
-    io::write_all(STDOUT_FILENO, b" ");
-    io::print_decimal(STDOUT_FILENO, n);
-}
-
-fn size_line(size: usize) {
-    word(b"size");
-    number(size as u64);
-    number(sizes::in_bytes(size));
-    number(sizes::smaller(size) as u64);
-    number(sizes::larger(size) as u64);
-    number(sizes::number_of_smaller_pages(size) as u64);
-    word(b"\n");
+fn size_line(rt: &impl Print, size: usize) -> io::Result<()> {
+    println!(rt;
+        "size {size} {} {} {} {}",
+        sizes::in_bytes(size),
+        sizes::smaller(size),
+        sizes::larger(size),
+        sizes::number_of_smaller_pages(size)
+    )
 }
 
 // The child at the index, and the index of its address.
-fn child_line(base: u64, size: usize, index: usize) {
+fn child_line(rt: &impl Print, base: u64, size: usize, index: usize) -> io::Result<()> {
     let child = sizes::child_address_and_size(Address(base), size, index);
     let address = child.address.0;
-    word(b"child");
-    number(base);
-    number(size as u64);
-    number(index as u64);
-    number(address);
-    number(child.size as u64);
-    number(sizes::calculate_child_index(Address(base), size, Address(address)) as u64);
-    word(b"\n");
+    println!(rt;
+        "child {base} {size} {index} {address} {} {}",
+        child.size,
+        sizes::calculate_child_index(Address(base), size, Address(address))
+    )
 }
 
-fn largest_line(address: u64, end: u64) {
-    word(b"largest");
-    number(address);
-    number(end);
-    number(sizes::find_largest_page_size(Address(address), Address(end)) as u64);
-    word(b"\n");
+fn largest_line(rt: &impl Print, address: u64, end: u64) -> io::Result<()> {
+    println!(rt;
+        "largest {address} {end} {}",
+        sizes::find_largest_page_size(Address(address), Address(end))
+    )
 }
 
 // The first, the second and the last child of the size's second node; of the largest size there is one node only.
-fn child_lines(size: usize) {
+fn child_lines(rt: &impl Print, size: usize) -> io::Result<()> {
     let base = if sizes::larger(size) == 0 {
         0
     } else {
@@ -55,52 +48,63 @@ fn child_lines(size: usize) {
     };
     let pages = sizes::number_of_smaller_pages(size);
     if 1 < pages {
-        child_line(base, size, 0);
-        child_line(base, size, 1);
-        child_line(base, size, pages - 1);
+        child_line(rt, base, size, 0)?;
+        child_line(rt, base, size, 1)?;
+        child_line(rt, base, size, pages - 1)?;
     }
+    Ok(())
 }
 
-fn size_lines() {
+fn size_lines(rt: &impl Print) -> io::Result<()> {
     for size in 1..sizes::largest() + 1 {
-        size_line(size);
-        child_lines(size);
+        size_line(rt, size)?;
+        child_lines(rt, size)?;
     }
+    Ok(())
 }
 
-fn wide(x: u8) -> u64
-    ensures { (result ≡ x) × (result < 256) }
+// The number whose eight bytes stand from an index on, the lowest first.
+fn number_at(row: &[u8; 16], at: usize) -> u64
+    requires { at + 8 ≤ 16 }
 {
-    x as u64
+    u64::from_le_bytes([
+        row[at],
+        row[at + 1],
+        row[at + 2],
+        row[at + 3],
+        row[at + 4],
+        row[at + 5],
+        row[at + 6],
+        row[at + 7],
+    ])
 }
 
-fn half_at(s: &[u8], at: usize) -> u64
-    requires { at + 4 ≤ length s.now }
-    ensures { result < 4294967296 }
+fn largest_lines(rt: &impl Print, rows: &[u8]) -> io::Result<()> {
+    let (whole, _) = rows.as_chunks::<16>();
+    for row in whole {
+        largest_line(rt, number_at(row, 0), number_at(row, 8))?;
+    }
+    Ok(())
+}
+
+// Reads until the buffer is full or the input ends, and answers how many bytes came. Where a read fails, that is the answer.
+fn read_full<R: Read>(input: &mut R, buffer: &mut [u8]) -> io::Result<usize>
+    ensures { IfOk result (λ n. n ≤ length buffer.old) }
 {
-    wide(s[at]) + wide(s[at + 1]) * 256 + wide(s[at + 2]) * 65536 + wide(s[at + 3]) * 16777216
-}
-
-fn number_at(s: &[u8], at: usize) -> u64
-    requires { at + 8 ≤ length s.now }
-{
-    half_at(s, at) + half_at(s, at + 4) * 4294967296
-}
-
-fn largest_lines(rows: &[u8]) {
-    let mut at: usize = 0;
-    while at < rows.len() {
-        if rows.len() - at < 16 {
-            return;
+    let mut done = 0;
+    for _ in 0..buffer.len() {
+        let got = input.read(&mut buffer[done..])?;
+        if got == 0 {
+            return Ok(done);
         }
-        largest_line(number_at(rows, at), number_at(rows, at + 8));
-        at += 16;
+        done += got;
     }
+    Ok(done)
 }
 
-fn main() {
-    size_lines();
-    let mut buffer = io::large_buffer();
-    let n = io::read_full(STDIN_FILENO, &mut buffer);
-    largest_lines(&buffer[..n]);
+fn main(rt: HostRuntime) -> io::Result<()> {
+    size_lines(&rt)?;
+    let mut buffer = [0u8; ROOM];
+    let n = read_full(&mut rt.reader(), &mut buffer)?;
+    largest_lines(&rt, &buffer[..n])
 }

@@ -1,0 +1,12 @@
+use mathlib.Core.Path.{sym}
+use native.Mathlib.Omega.{arith}
+use Rattle.pool.specs.Nodes.{with_marks}
+use Rattle.pool.proofs.Lists.{map_run-none, map_run-next}
+use Rattle.pages.proofs.node.mark_children.Goals as goal
+
+pub loop-i-init : goal.loop-i-init
+loop-i-init c = let a = c.args in (omega arith, sym (map_run-none (with_marks a.m) a.pool.now a.first.0))
+
+pub loop-i-preserved : goal.loop-i-preserved
+loop-i-preserved c =
+    (omega arith, map_run-next (with_marks c.args.m) c.args.pool.now c.loop-i.pool c.args.first.0 c.loop-i.i c.with_marks.result c.loop-i.invariant.1 (omega arith) c.with_marks.ensures)

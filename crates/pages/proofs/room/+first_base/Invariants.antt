@@ -1,0 +1,5 @@
+-- first_base: the block that an acquire takes, read on the way down. Assumes nothing.
+use Rattle.pages.proofs.room.+first_base.Given as goal
+
+abbrev pub decreases-first_base : goal.decreases-first_base
+decreases-first_base l = l.level
