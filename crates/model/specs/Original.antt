@@ -1,4 +1,4 @@
--- The original's allocator (allocator.rs of IBM/ACE-RISCV) on values, function by function, in its order as far as a definition stands before its use. Names are the Rust's, but for `token_of`, `max_of`, `empty_node`, `empty_allocator` and `region_loop`.
+-- The original's allocator (allocator.rs of IBM/ACE-RISCV) on values, function by function, in its order as far as a definition stands before its use. Names are the Rust's, but for `StorageNode`, `token_of`, `max_of`, `empty_node`, `empty_allocator` and `region_loop`.
 -- Each assert, unwrap, index and step of arithmetic of the Rust is here and may end in `panics`, as does a loop that has no turns left. Sizes are codes of a ladder, addresses are in bytes.
 use Rattle.std.specs.Prelude.{if◌then◌else◌, ◌&&◌, not, List, [], ℕ, zero, suc, ◌+◌, ◌-◌, ◌%◌, leb, ltb, eqb, length, set, replicate}
 use Rattle.std.proofs.Math.Option.{Option, none, some}

@@ -36,10 +36,11 @@ pub fan_out-most : (c : ℕ) → fan_out six c ≤ most_children
 unfolding fan_out
 fan_out-most c = below_at most_children six.fan_outs tt c
 
--- one turn of the look for the largest
+-- no page is empty
 pub bytes_some : (c : ℕ) → 0 < c → c ≤ most_code → 0 < bytes six c
 bytes_some c h k = bytes_pos six six-multiplies c (record { low = h; high = omega (arith, largest-most) })
 
+-- one turn of the look for the largest: its code fits, is not aligned, ends too late, or there is none left
 pub turn-here : (c a e : ℕ) → 0 < c → c ≤ most_code → a % bytes six c ≡ 0 → a + bytes six c ≤ e → largest_up_to six c a e ≡ c
 turn-here c a e h k x y = up-to-here six a e c (record { code = record { low = h; high = omega (arith, largest-most) }; aligned = x; ends = y })
 

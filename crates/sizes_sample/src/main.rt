@@ -2,7 +2,7 @@
 // The expected lines are the original Rust's (`oracle sizes`).
 #![tactic(auto)]
 
-ghost use Rattle.std.specs.Prelude.{◌+◌, ◌≤◌, length, IfOk};
+ghost use Rattle.std.specs.Prelude.{◌+◌, ◌≤◌, length};
 
 use sizes::Address;
 use std::io;
@@ -87,24 +87,29 @@ fn largest_lines(rt: &impl Print, rows: &[u8]) -> io::Result<()> {
     Ok(())
 }
 
-// Reads until the buffer is full or the input ends, and answers how many bytes came. Where a read fails, that is the answer.
-fn read_full<R: Read>(input: &mut R, buffer: &mut [u8]) -> io::Result<usize>
-    ensures { IfOk result (λ n. n ≤ length buffer.old) }
+// Reads until the buffer is full, the input ends or a read fails, and answers how many bytes came, and that error.
+fn read_full<R: Read>(input: &mut R, buffer: &mut [u8]) -> (usize, io::Result<()>)
+    ensures { result.0 ≤ length buffer.old }
 {
     let mut done = 0;
     for _ in 0..buffer.len() {
-        let got = input.read(&mut buffer[done..])?;
-        if got == 0 {
-            return Ok(done);
+        match input.read(&mut buffer[done..]) {
+            Ok(got) => {
+                if got == 0 {
+                    return (done, Ok(()));
+                }
+                done += got;
+            }
+            Err(error) => return (done, Err(error)),
         }
-        done += got;
     }
-    Ok(done)
+    (done, Ok(()))
 }
 
 fn main(rt: HostRuntime) -> io::Result<()> {
     size_lines(&rt)?;
     let mut buffer = [0u8; ROOM];
-    let n = read_full(&mut rt.reader(), &mut buffer)?;
-    largest_lines(&rt, &buffer[..n])
+    let (n, read) = read_full(&mut rt.reader(), &mut buffer);
+    largest_lines(&rt, &buffer[..n])?;
+    read
 }
