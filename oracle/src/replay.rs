@@ -19,11 +19,11 @@ mod tests;
 /// How long the program may take for one journal.
 const LIMIT: Duration = Duration::from_secs(60);
 
-/// How many bytes the program reads at a time.
-const BUFFER: usize = 4_096;
+/// How many bytes the program's buffers have: that of the lines that wait, and that of its reader.
+const BUFFERS: [usize; 2] = [4_096, 8_192];
 
-/// How many bytes at a time a journal is written that is written in pieces: few, and one off the program's buffer.
-const PIECES: [usize; 4] = [1, 7, BUFFER - 1, BUFFER + 1];
+/// How many bytes at a time a journal is written that is written in pieces: few, and one off a buffer of the program.
+const PIECES: [usize; 6] = [1, 7, BUFFERS[0] - 1, BUFFERS[0] + 1, BUFFERS[1] - 1, BUFFERS[1] + 1];
 
 /// How many entries a journal may have to be written in pieces too. Only short ones are, and the long ones.
 const SHORT: usize = 50;
@@ -71,7 +71,7 @@ pub fn run(path: &str, jobs: &[Job], number: u64) -> Result<String, String> {
     let replayed_long = replay_generated(program, &long)?;
     let cut = replay_bytes(program, "cut short", &cut_journals(number))?;
     let random = replay_bytes(program, "of random bytes", &random_journals(number, RANDOM_JOURNALS))?;
-    let ends = replay_bytes(program, "around the end of a buffer", &buffer_ends())?;
+    let ends = replay_bytes(program, "around the end of a buffer", &BUFFERS.map(buffer_ends).concat())?;
     let runs: Vec<Run> = replayed.iter().map(|each| each.run).collect();
     let in_pieces = replayed.iter().chain(&replayed_long).filter(|each| each.in_pieces).count();
     let entries: u64 = replayed_long.iter().map(|each| each.run.entries).sum();
@@ -145,15 +145,15 @@ fn wrongs(printed: &Printed, lines: &str) -> Vec<String> {
     wrong
 }
 
-/// Document 01's journal behind so many reports that the program's first buffer ends at each of its bytes, whole and
-/// cut there.
-fn buffer_ends() -> Vec<Vec<u8>> {
+/// Document 01's journal behind so many reports that a first buffer of so many bytes ends at each of its bytes, whole
+/// and cut there.
+fn buffer_ends(buffer: usize) -> Vec<Vec<u8>> {
     let document = encode(&DOCUMENT);
     let mut journals = Vec::new();
     for place in 0..=document.len() {
-        let reports = vec![Entry::Report; BUFFER - place];
+        let reports = vec![Entry::Report; buffer - place];
         let whole = [encode(&reports), document.clone()].concat();
-        journals.extend([whole[..BUFFER].to_vec(), whole]);
+        journals.extend([whole[..buffer].to_vec(), whole]);
     }
     journals
 }

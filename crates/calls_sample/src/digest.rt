@@ -1,69 +1,46 @@
 // A running digest of numbers. Each step is one to one in the digest and in the number, so that one wrong number always shows.
-ghost use Rattle.std.specs.Prelude.{◌≤◌, length};
+use pages::State;
+use std::fmt;
 
-use pages::{PLACES, State};
+/// The digest of the numbers so far.
+#[derive(Clone, Copy)]
+pub struct Digest(u64);
 
-// The digest of nothing.
-pub const NONE: u64 = 14695981039346656037;
+impl Digest {
+    /// The digest of nothing.
+    pub const NONE: Digest = Digest(14695981039346656037);
 
-// How long a pool may be to be taken whole after each call.
-const SMALL: usize = 4096;
+    /// The digest with a number added.
+    pub fn with(self, number: u64) -> Digest {
+        let mixed = self.0 ^ number;
+        let spread = mixed.wrapping_add(mixed << 21);
+        Digest(spread ^ (spread >> 29))
+    }
 
-// How many words behind used are taken in a longer one.
-const BEHIND: usize = 3072;
+    /// The digest with some numbers added.
+    pub fn with_all(self, numbers: &[u64]) -> Digest {
+        numbers
+            .iter()
+            .fold(self, |digest, &number| digest.with(number))
+    }
 
-// The digest with a number added.
-pub fn step(digest: u64, number: u64) -> u64 {
-    let mixed = digest ^ number;
-    let spread = mixed.wrapping_add(mixed << 21);
-    spread ^ (spread >> 29)
+    /// The digest with words of a pool added.
+    pub fn with_words(self, words: &[u32]) -> Digest {
+        words
+            .iter()
+            .fold(self, |digest, &word| digest.with(u64::from(word)))
+    }
+
+    /// The digest with every field of a state added.
+    pub fn with_state(self, state: State) -> Digest {
+        self.with(state.used as u64)
+            .with_all(&state.starts)
+            .with_all(&state.ends)
+    }
 }
 
-// A word as a number.
-fn wide(word: u32) -> u64 {
-    word as u64
-}
-
-// The same with the first words of a pool.
-pub fn words(digest: u64, pool: &[u32], count: usize) -> u64
-    requires { count ≤ length pool.now }
-{
-    let mut last = digest;
-    for i in 0..count {
-        last = step(last, wide(pool[i]));
+impl fmt::Display for Digest {
+    fn fmt<W: fmt::Write>(&self, f: &mut fmt::Formatter<W>) -> fmt::Result {
+        write!(f, "{}", self.0)
     }
-    last
-}
-
-// The same with eight numbers.
-fn eight(digest: u64, numbers: &[u64; PLACES]) -> u64 {
-    let mut last = digest;
-    for i in 0..PLACES {
-        last = step(last, numbers[i]);
-    }
-    last
-}
-
-// The same with every field of a state.
-pub fn fields(digest: u64, state: State) -> u64 {
-    let starts = state.starts;
-    let ends = state.ends;
-    let used = step(digest, state.used as u64);
-    eight(eight(used, &starts), &ends)
-}
-
-// How many words of a pool are taken after a call: all, or those in use and some behind them.
-pub fn reach(used: usize, length: usize) -> usize
-    ensures { result ≤ length }
-{
-    if length <= SMALL {
-        return length;
-    }
-    if used >= length {
-        return length;
-    }
-    if length - used <= BEHIND {
-        return length;
-    }
-    used + BEHIND
 }

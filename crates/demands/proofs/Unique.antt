@@ -17,11 +17,12 @@ use Rattle.pool.specs.Regions.{Regions, regions_of}
 use Rattle.pool.specs.RegionTest.{regions_pass}
 use Rattle.pages.specs.Calls.{Store, Reply, plain, Places, SoundStore, served, Replies, fresh_reply}
 use Rattle.pages.specs.Room.{Plans}
-use Rattle.pages.specs.declared.State.{State}
-use Rattle.pages.proofs.Decide.{Checked, check_sound, sound-check}
+use Rattle.pages.specs.declared.state.State.{State}
+use Rattle.pages.proofs.Decide.{check_sound, sound-check}
+use Rattle.pages.specs.PassesCheck.{PassesCheck}
 
 -- what the check asks is decided, clause by clause
-checked-dec : (L : Ladder) (limit used : ℕ) (starts ends p : List ℕ) → Dec (Checked L ltb limit used starts ends p)
+checked-dec : (L : Ladder) (limit used : ℕ) (starts ends p : List ℕ) → Dec (PassesCheck L ltb limit used starts ends p)
 checked-dec L limit used starts ends p = map_dec
     (λ x. record { low = x.0; high = x.1.0; limited = x.1.1.0; regions = x.1.1.1.0; walked = x.1.1.1.1.0; swept = x.1.1.1.1.1 })
     (λ c. (c.low, (c.high, (c.limited, (c.regions, (c.walked, c.swept))))))

@@ -5,7 +5,7 @@ use Rattle.model.specs.Frames.{Wholly}
 use Rattle.model.specs.Calls.{Region, seeded, Regions, Call, seed, acquire, release, report}
 use Rattle.model.specs.FrameStore.{memory}
 use Rattle.model.specs.Room.{room_for}
-use Rattle.pages.specs.declared.State.{State}
+use Rattle.pages.specs.declared.state.State.{State}
 use Rattle.pages.specs.Calls.{Store, Reply, Places, SoundStore, Replies, fresh_reply}
 use Rattle.pages.specs.Room.{with_region, Plans}
 use Rattle.demands.specs.Demands.{Runs}

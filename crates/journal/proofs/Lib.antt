@@ -1,5 +1,4 @@
 pub mod Entries
-pub mod Steps
 pub mod Unique
 pub mod Joined
 pub mod Journals

@@ -7,12 +7,12 @@ use native.Mathlib.Nat.{pow-suc, pow-le-pow_right, le-div_iff_mul-le, div-lt_iff
 use native.Mathlib.Numerals.{add-one}
 use native.Mathlib.Omega.{arith}
 use lib.Dec.{ltb}
-use lib.ListN.{length, take, drop, set, get_or, length-append}
-use lib.Seq.{take_all, take-suc, take-suc-set, drop-drop, drop-set-lt}
+use lib.ListN.{length, take, drop, get_or, set, length-append}
+use lib.Seq.{take-suc, take-suc-set, drop-drop, drop-set-lt}
+use Rattle.std.proofs.lemmas.Slice.{take-put_mid, drop-put_mid}
 use borrow.Author.Tests.{ltb-true, ltb-false}
 use Rattle.io.specs.Digits.{last_digits, IsDigitCount}
-use Rattle.journal.specs.declared.Line.{Line}
-use Rattle.journal.specs.Lines.{width, decimal, spaced, printed, line_text, longest_line, Put, Appends}
+use Rattle.journal.specs.Lines.{width, decimal, spaced, printed, Put}
 
 -- a number of two digits or more is no less than the power of ten that has as many
 reaches : (n k : ℕ) → IsDigitCount 10 1 n (suc (suc k)) → 10 ^ suc k ≤ n
@@ -53,23 +53,13 @@ fewest-width zero n k f h = one-digit n k f (omega arith)
 fewest-width (suc m) n k f h = by_ten n (width m (n / 10)) (ltb n 10) refl k f (λ j g. fewest-width m (n / 10) j g (tenth-below n (suc m) h))
 
 -- the fewest digits of a number of 64 bits are its decimal
-pub fewest-decimal : (n k : ℕ) (x : List ℕ) → n < 2 ^ 64 → IsDigitCount 10 1 n k → x ≡ last_digits 10 k n → x ≡ decimal n
+pub fewest_decimal : (n k : ℕ) → n < 2 ^ 64 → IsDigitCount 10 1 n k → decimal n ≡ last_digits 10 k n
 unfolding decimal
-fewest-decimal n k x h f e = e ∙ ap (λ (j : ℕ). last_digits 10 j n) (fewest-width 19 n k f (omega arith))
+fewest_decimal n k h f = ap (λ (j : ℕ). last_digits 10 j n) (sym (fewest-width 19 n k f (omega arith)))
 
--- a width is one digit and so many more at most
-width-most : (m n : ℕ) → width m n ≤ suc m
-unfolding width
-width-most zero n = omega arith
-width-most (suc m) n = go (ltb n 10) (width m (n / 10)) (width-most m (n / 10))
-  where
-    go : (t : Bool) (w : ℕ) → w ≤ suc m → cond t 1 (suc w) ≤ suc (suc m)
-    go true w h = omega arith
-    go false w h = omega arith
-
--- a number of 64 bits has at most 20 digits
-pub few-digits : (n k : ℕ) → n < 2 ^ 64 → IsDigitCount 10 1 n k → k ≤ 20
-few-digits n k h f = omega (arith, fewest-width 19 n k f (omega arith), width-most 19 n)
+-- ... as a text that has that many digits says it
+pub fewest-decimal : (n k : ℕ) (x : List ℕ) → n < 2 ^ 64 → IsDigitCount 10 1 n k → x ≡ last_digits 10 k n → x ≡ decimal n
+fewest-decimal n k x h f e = e ∙ sym (fewest_decimal n k h f)
 
 -- what stays from an index on stays from a later one on
 rest-later : (a b : List ℕ) (r s : ℕ) → r ≤ s → drop r a ≡ drop r b → drop s a ≡ drop s b
@@ -81,6 +71,18 @@ rest-later a b r s h e =
 pub put-none : (d : List ℕ) (at : ℕ) → Put d at [] at d
 put-none d at = record { index = sym (add-zero at); bytes = sym (append-nil (take at d)); rest = refl }
 
+-- a text that is put, said in another way
+pub put_as : {d t a : List ℕ} {at r : ℕ} (u : List ℕ) (s : ℕ) → t ≡ u → r ≡ s → Put d at t r a → Put d at u s a
+put_as {d} {t} {a} {at} {r} u s e f p = subst (λ (x : List ℕ). Put d at x s a) e (subst (λ (j : ℕ). Put d at t j a) f p)
+
+-- a byte is put
+pub put_byte : (d : List ℕ) (at x : ℕ) → at < length d → Put d at (x ∷ []) (suc at) (set d at x)
+put_byte d at x h = record {
+  index = omega arith;
+  bytes = take-suc-set d at x h;
+  rest = drop-set-lt (suc at) d at x (omega arith);
+}
+
 -- one text is put behind another
 pub put_then : {d t a u z : List ℕ} {at r s : ℕ} → Put d at t r a → Put a r u s z → Put d at (t ++ u) s z
 put_then {d} {t} {a} {u} {z} {at} {r} {s} p q = record {
@@ -89,30 +91,8 @@ put_then {d} {t} {a} {u} {z} {at} {r} {s} p q = record {
   rest = q.rest ∙ rest-later a d r s (omega (arith, q.index)) p.rest;
 }
 
--- the same of a text and an index that are known by equations
-pub put_as : {d t a : List ℕ} {at r : ℕ} (u : List ℕ) (s : ℕ) → t ≡ u → r ≡ s → Put d at t r a → Put d at u s a
-put_as {d} {t} {a} {at} {r} u s e f p = subst (λ (x : List ℕ). Put d at x s a) e (subst (λ (j : ℕ). Put d at t j a) f p)
-
--- a byte is put
-put_byte : (d : List ℕ) (at x : ℕ) → at < length d → Put d at (x ∷ []) (suc at) (set d at x)
-put_byte d at x h = record {
-  index = omega arith;
-  bytes = take-suc-set d at x h;
-  rest = drop-set-lt (suc at) d at x (omega arith);
-}
-
--- putting a text t behind the first `at` bytes of d, a byte each turn
-module _ (d : List ℕ) (at : ℕ) (t : List ℕ) where
-  pub text-none : Put d at (take 0 t) (at + 0) d
-  text-none = put_as [] (at + 0) refl (sym (add-zero at)) (put-none d at)
-
-  pub text-more : (out : List ℕ) (i : ℕ) → at + i < length out → i < length t → Put d at (take i t) (at + i) out → Put d at (take (i + 1) t) (at + (i + 1)) (set out (at + i) (get_or t i 0))
-  text-more out i h k p =
-      let e : suc (at + i) ≡ at + (i + 1) = omega arith in
-      put_as (take (i + 1) t) (at + (i + 1)) (rw (add-one i, take-suc t i 0 k) refl) e (put_then p (put_byte out (at + i) (get_or t i 0) h))
-
-  pub text-all : (out : List ℕ) (i : ℕ) → i ≡ length t → Put d at (take i t) (at + i) out → Put d at t (at + length t) out
-  text-all out i k p = put_as t (at + length t) (take_all i t (omega arith)) (ap (λ (j : ℕ). at + j) k) p
+-- what is copied into a part stands behind the bytes before it
+pub ruleset middle = (take-put_mid, drop-put_mid)
 
 -- the numbers of two lists
 spaced-append : (xs ys : List ℕ) → spaced (xs ++ ys) ≡ spaced xs ++ spaced ys
@@ -125,35 +105,16 @@ spaced-more : (ns : List ℕ) (i : ℕ) → i < length ns → spaced (take (i + 
 unfolding spaced
 spaced-more ns i h = rw (add-one i, take-suc ns i 0 h) (spaced-append (take i ns) (get_or ns i 0 ∷ []) ∙ ap (λ (s : List ℕ). spaced (take i ns) ++ s) (append-nil (32 ∷ decimal (get_or ns i 0))))
 
--- before the first number, and behind the last
-pub number-none : (d : List ℕ) (at : ℕ) → Put d at (spaced []) at d
+-- before the first number
+pub number_none : (d : List ℕ) (at : ℕ) → Put d at (spaced []) at d
 unfolding spaced
-number-none d at = put-none d at
-
-pub number-all : {d a : List ℕ} {at r : ℕ} (ns : List ℕ) (i : ℕ) → length ns ≤ i → Put d at (spaced (take i ns)) r a → Put d at (spaced ns) r a
-number-all {r = r} ns i h p = put_as (spaced ns) r (ap spaced (take_all i ns h)) refl p
+number_none d at = put-none d at
 
 -- a space and a number, put behind the first numbers
 pub number_more : {d a b c : List ℕ} {at r s u : ℕ} (ns : List ℕ) (i : ℕ) → i < length ns → Put d at (spaced (take i ns)) r a → Put a r (32 ∷ []) s b → Put b s (decimal (get_or ns i 0)) u c → Put d at (spaced (take (i + 1) ns)) u c
-number_more {u = u} ns i h p q n = put_as (spaced (take (i + 1) ns)) u (sym (spaced-more ns i h)) refl (put_then p (put_then q n))
+number_more ns i h p q n = rw (spaced-more ns i h) (put_then p (put_then q n))
 
 -- the parts of a line, put one behind the other
-pub line-printed : {d a b c e f : List ℕ} {at i j k l m : ℕ} (n : ℕ) (name ns : List ℕ) → Put d at (decimal n) i a → Put a i (32 ∷ []) j b → Put b j name k c → Put c k (spaced ns) l e → Put e l (10 ∷ []) m f → Put d at (printed n name ns) m f
+pub line_printed : {d a b c e f : List ℕ} {at i j k l m : ℕ} (n : ℕ) (name ns : List ℕ) → Put d at (decimal n) i a → Put a i (32 ∷ []) j b → Put b j name k c → Put c k (spaced ns) l e → Put e l (10 ∷ []) m f → Put d at (printed n name ns) m f
 unfolding printed
-line-printed n name ns pn ps pt pr pe = put_then pn (put_then (put_then ps pt) (put_then pr pe))
-
--- a line is put where there is room for the longest, from what the entry is
-pub line-put : (n : ℕ) (l m : Line) (d a : List ℕ) (at r : ℕ) → at + longest_line ≤ length d → length a ≡ length d → l ≡ m → r ≤ at + longest_line → Put d at (line_text n m) r a → Appends d at (line_text n l) r a
-line-put n l m d a at r h s e k p = record {
-  same_length = s;
-  room = λ _. (k, put_as (line_text n l) r (ap (line_text n) (sym e)) refl p);
-  none = λ f. absurd (f h);
-}
-
--- where there is no room for the longest line nothing is put
-pub line-none : (t d : List ℕ) (at : ℕ) → length d < at + longest_line → Appends d at t at d
-line-none t d at h = record {
-  same_length = refl;
-  room = λ f. absurd (omega arith);
-  none = λ _. (refl, refl);
-}
+line_printed n name ns pn ps pt pr pe = put_then pn (put_then (put_then ps pt) (put_then pr pe))

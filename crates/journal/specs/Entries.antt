@@ -4,6 +4,8 @@ use Rattle.sizes.specs.declared.Address.{Address}
 use Rattle.journal.specs.declared.Entry.{Entry}
 use Rattle.journal.specs.declared.Entry.TheVariants.{Seed, Acquire, Release, Report, Bad, End}
 use Rattle.journal.specs.declared.Reading.{Reading}
+use Rattle.journal.specs.declared.bad_entry.BadEntry.{BadEntry}
+use Rattle.journal.specs.declared.bad_entry.BadEntry.TheVariants.{UnknownKind, CutShort}
 
 -- numbers are little-endian
 unfoldable pub number : List ℕ → ℕ
@@ -13,6 +15,11 @@ number (b ∷ s) = b + 256 * number s
 -- the address whose bytes these are
 abbrev pub address : List ℕ → Address
 address s = record { 0 = number s }
+
+-- the refusal numbers of what is no entry: an unknown kind, a body cut short
+abbrev pub bad_number : BadEntry → ℕ
+bad_number UnknownKind = 12
+bad_number CutShort = 13
 
 -- how many bytes the bodies have; a report has none
 abbrev pub seed_body : ℕ

@@ -1,15 +1,19 @@
 // The journal of document 01: an entry is read from lent bytes, and one step makes its call on a state and a lent pool.
 #![tactic(auto)]
 
+mod bad_entry;
 mod text;
 
-ghost use Rattle.std.specs.Prelude.{◌≡◌, ◌+◌, ◌≤◌, ◌<◌, length, take, drop};
+ghost use Rattle.std.specs.Prelude.{◌≡◌, ◌+◌, ◌≤◌, ◌<◌, length, take, drop, IfOk, IfErr, OnErr};
 ghost use Rattle.pages.specs.Calls.{store};
 ghost use Rattle.journal.specs.Steps.{Serves, Steps};
-ghost use Rattle.journal.specs.Entries.{number as number_of, seed_of, acquire_of, release_of, reading, read_at, nothing};
+ghost use Rattle.journal.specs.declared.Entry.TheVariants.{Bad};
+ghost use Rattle.journal.specs.declared.bad_entry.BadEntry.TheVariants.{CutShort};
+ghost use Rattle.journal.specs.Entries.{number as number_of, bad_number, seed_of, acquire_of, release_of, entry_of, behind, read_at};
 
+pub use bad_entry::BadEntry;
 use pages::State;
-use sizes::Address;
+use sizes::{Address, PageSize};
 pub use text::{LINE, line_text};
 
 // The kinds of entries.
@@ -21,20 +25,8 @@ const RELEASE: u8 = 3;
 
 const REPORT: u8 = 4;
 
-// How many bytes their bodies have; a report has none.
-const SEED_BODY: usize = 16;
-
-const ACQUIRE_BODY: usize = 1;
-
-const RELEASE_BODY: usize = 9;
-
-// The refusals of the journal: an unknown kind, a body cut short.
-const UNKNOWN_KIND: u32 = 12;
-
-pub const CUT_SHORT: u32 = 13;
-
-// An entry: a call with its numbers (start and end; code; base and code), the refusal of bytes that are none, or nothing left.
-#[derive(Clone, Copy)]
+/// An entry: a call with its numbers (start and end; code; base and code), the refusal of bytes that are none, or nothing left.
+#[derive(Clone, Copy, Debug, PartialEq, Eq)]
 pub enum Entry {
     Seed(Address, Address),
     Acquire(u8),
@@ -44,15 +36,15 @@ pub enum Entry {
     End,
 }
 
-// An entry, and the index behind it. Behind what is none nothing is left: the index is the journal's length.
-#[derive(Clone, Copy)]
+/// An entry, and the index behind it. Behind what is none nothing is left: the index is the journal's length.
+#[derive(Clone, Copy, Debug, PartialEq, Eq)]
 pub struct Reading {
     pub entry: Entry,
     pub next: usize,
 }
 
-// The numbers of an entry's line: the refusal, then the results (base and probes; seeded bytes, free bytes, largest and used words).
-#[derive(Clone, Copy)]
+/// The numbers of an entry's line: the refusal, then the results (base and probes; seeded bytes, free bytes, largest and used words).
+#[derive(Clone, Copy, Debug, PartialEq, Eq)]
 pub enum Line {
     Seed(u32),
     Acquire(u32, Address, usize),
@@ -62,184 +54,158 @@ pub enum Line {
     End,
 }
 
-// What a step gives: the state, the numbers of the line, and the index of the next entry.
-#[derive(Clone, Copy)]
+/// What a step gives: the state, the numbers of the line, and the index of the next entry.
+#[derive(Clone, Copy, Debug, PartialEq, Eq)]
 pub struct Stepped {
     pub state: State,
     pub line: Line,
     pub next: usize,
 }
 
-// The state and the line that an entry gives.
-#[derive(Clone, Copy)]
+/// The state and the line that an entry gives.
+#[derive(Clone, Copy, Debug, PartialEq, Eq)]
 pub struct Served {
     pub state: State,
     pub line: Line,
 }
 
-// A byte as a number.
-fn wide(x: u8) -> u64
-    ensures { (result ≡ x) × (result < 256) }
+// Takes the byte at the front of a body, and hands on what follows it.
+#[tactic(auto, unfolding(crate::specs::Entries::number))]
+fn byte(body: &[u8]) -> Result<(u8, &[u8]), BadEntry>
+    ensures byte { IfOk result (λ read. read.0 ≡ number_of (take 1 body.now)) }
+    ensures rest { IfOk result (λ read. read.1.now ≡ drop 1 body.now) }
+    ensures whole { IfOk result (λ read. length body.now ≡ 1 + length read.1.now) }
+    ensures cut_short { IfErr result (λ bad. bad ≡ CutShort) }
+    ensures short { OnErr result (length body.now < 1) }
 {
-    x as u64
+    let (byte, rest) = body.split_first().ok_or(BadEntry::CutShort)?;
+    Ok((*byte, rest))
 }
 
-// The number whose eight bytes stand from an index on, the lowest first.
-fn number(journal: &[u8], at: usize) -> u64
-    requires { at + 8 ≤ length journal.now }
-    ensures { result ≡ number_of (take 8 (drop at journal.now)) }
+// Takes the number of the eight bytes at the front of a body, the lowest first, and hands on what follows them.
+#[tactic(auto, using(crate::proofs::Entries::number_first))]
+fn number(body: &[u8]) -> Result<(u64, &[u8]), BadEntry>
+    ensures number { IfOk result (λ read. read.0 ≡ number_of (take 8 body.now)) }
+    ensures rest { IfOk result (λ read. read.1.now ≡ drop 8 body.now) }
+    ensures whole { IfOk result (λ read. length body.now ≡ 8 + length read.1.now) }
+    ensures cut_short { IfErr result (λ bad. bad ≡ CutShort) }
+    ensures short { OnErr result (length body.now < 8) }
 {
-    let low = wide(journal[at])
-        + 256 * wide(journal[at + 1])
-        + 65536 * wide(journal[at + 2])
-        + 16777216 * wide(journal[at + 3]);
-    let high = wide(journal[at + 4])
-        + 256 * wide(journal[at + 5])
-        + 65536 * wide(journal[at + 6])
-        + 16777216 * wide(journal[at + 7]);
-    low + 4294967296 * high
-}
-
-// What is read where there is no entry, in a journal of so many bytes: nothing is left behind it.
-fn no_entry(entry: Entry, bytes: usize) -> Reading
-    ensures { result ≡ nothing entry bytes }
-{
-    Reading { entry, next: bytes }
+    let (bytes, rest) = body.split_first_chunk::<8>().ok_or(BadEntry::CutShort)?;
+    Ok((u64::from_le_bytes(*bytes), rest))
 }
 
 // Reads the body of a seed: start, end.
-fn read_seed(journal: &[u8], body: usize) -> Reading
-    requires { body ≤ length journal.now }
-    ensures { result ≡ reading (seed_of (drop body journal.now)) body (length journal.now) }
+fn read_seed(body: &[u8]) -> Result<(Entry, &[u8]), BadEntry>
+    ensures entry { IfOk result (λ read. seed_of body.now ≡ read.0) }
+    ensures rest { IfOk result (λ read. read.1.now ≡ drop 16 body.now) }
+    ensures whole { IfOk result (λ read. length body.now ≡ 16 + length read.1.now) }
+    ensures bad { IfErr result (λ bad. seed_of body.now ≡ Bad (bad_number bad)) }
 {
-    let bytes = journal.len();
-    if bytes - body < SEED_BODY {
-        return no_entry(Entry::Bad(CUT_SHORT), bytes);
-    }
-    let second = body + 8;
-    let start = Address(number(journal, body));
-    let end = Address(number(journal, second));
-    Reading {
-        entry: Entry::Seed(start, end),
-        next: body + SEED_BODY,
-    }
+    let (start, rest) = number(body)?;
+    let (end, rest) = number(rest)?;
+    Ok((Entry::Seed(Address(start), Address(end)), rest))
 }
 
 // Reads the body of an acquire: code.
-fn read_acquire(journal: &[u8], body: usize) -> Reading
-    requires { body ≤ length journal.now }
-    ensures { result ≡ reading (acquire_of (drop body journal.now)) body (length journal.now) }
+fn read_acquire(body: &[u8]) -> Result<(Entry, &[u8]), BadEntry>
+    ensures entry { IfOk result (λ read. acquire_of body.now ≡ read.0) }
+    ensures rest { IfOk result (λ read. read.1.now ≡ drop 1 body.now) }
+    ensures whole { IfOk result (λ read. length body.now ≡ 1 + length read.1.now) }
+    ensures bad { IfErr result (λ bad. acquire_of body.now ≡ Bad (bad_number bad)) }
 {
-    let bytes = journal.len();
-    if bytes - body < ACQUIRE_BODY {
-        return no_entry(Entry::Bad(CUT_SHORT), bytes);
-    }
-    let code = journal[body];
-    Reading {
-        entry: Entry::Acquire(code),
-        next: body + ACQUIRE_BODY,
-    }
+    let (code, rest) = byte(body)?;
+    Ok((Entry::Acquire(code), rest))
 }
 
 // Reads the body of a release: base, code.
-fn read_release(journal: &[u8], body: usize) -> Reading
-    requires { body ≤ length journal.now }
-    ensures { result ≡ reading (release_of (drop body journal.now)) body (length journal.now) }
+fn read_release(body: &[u8]) -> Result<(Entry, &[u8]), BadEntry>
+    ensures entry { IfOk result (λ read. release_of body.now ≡ read.0) }
+    ensures rest { IfOk result (λ read. read.1.now ≡ drop 9 body.now) }
+    ensures whole { IfOk result (λ read. length body.now ≡ 9 + length read.1.now) }
+    ensures bad { IfErr result (λ bad. release_of body.now ≡ Bad (bad_number bad)) }
 {
-    let bytes = journal.len();
-    if bytes - body < RELEASE_BODY {
-        return no_entry(Entry::Bad(CUT_SHORT), bytes);
-    }
-    let last = body + 8;
-    let base = Address(number(journal, body));
-    let code = journal[last];
-    Reading {
-        entry: Entry::Release(base, code),
-        next: body + RELEASE_BODY,
+    let (base, rest) = number(body)?;
+    let (code, rest) = byte(rest)?;
+    Ok((Entry::Release(Address(base), code), rest))
+}
+
+/// Reads the entry at the front of some bytes, and hands on those behind it. Where there are no bytes it is the end.
+#[tactic(auto, unfolding(crate::specs::Entries::entry_of))]
+pub fn first_entry(bytes: &[u8]) -> Result<(Entry, &[u8]), BadEntry>
+    ensures entry { IfOk result (λ read. entry_of bytes.now ≡ read.0) }
+    ensures rest { IfOk result (λ read.
+        read.1.now ≡ drop (behind read.0 1 (length bytes.now)) bytes.now) }
+    ensures whole { IfOk result (λ read.
+        length bytes.now ≡ behind read.0 1 (length bytes.now) + length read.1.now) }
+    ensures bad { IfErr result (λ bad. entry_of bytes.now ≡ Bad (bad_number bad)) }
+{
+    let Some((kind, body)) = bytes.split_first() else {
+        return Ok((Entry::End, bytes));
+    };
+    match *kind {
+        SEED => read_seed(body),
+        ACQUIRE => read_acquire(body),
+        RELEASE => read_release(body),
+        REPORT => Ok((Entry::Report, body)),
+        _ => Err(BadEntry::UnknownKind),
     }
 }
 
-// Reads the entry that starts at an index of the journal.
+/// Reads the entry that starts at an index of the journal.
 pub fn read_entry(journal: &[u8], at: usize) -> Reading
     ensures { result ≡ read_at journal.now at }
 {
-    let bytes = journal.len();
-    if at >= bytes {
-        return no_entry(Entry::End, bytes);
-    }
-    let kind = journal[at];
-    let body = at + 1;
-    match kind {
-        SEED => read_seed(journal, body),
-        ACQUIRE => read_acquire(journal, body),
-        RELEASE => read_release(journal, body),
-        REPORT => Reading {
-            entry: Entry::Report,
-            next: body,
+    let bytes = journal.get(at..).unwrap_or(&[]);
+    match first_entry(bytes) {
+        Ok((entry, rest)) => Reading {
+            entry,
+            next: journal.len() - rest.len(),
         },
-        _ => no_entry(Entry::Bad(UNKNOWN_KIND), bytes),
+        Err(bad) => Reading {
+            entry: Entry::Bad(bad.number()),
+            next: journal.len(),
+        },
     }
 }
 
-// A state and a line, as one.
-fn as_served(state: State, line: Line) -> Served
-    ensures { (result.state ≡ state) × (result.line ≡ line) }
-{
-    Served { state, line }
-}
-
-// Makes the call that an entry asks for; where it asks for none, nothing changes.
+/// Makes the call that an entry asks for; where it asks for none, nothing changes.
 pub fn serve(state: State, pool: &mut [u32], entry: Entry) -> Served
     ensures { Serves (store state pool.old) entry result.line (store result.state pool.new) }
 {
-    match entry {
-        Entry::Seed(start, end) => {
-            let done = pages::seed(state, pool, start, end);
-            let after = done.state;
-            as_served(after, Line::Seed(done.refusal))
-        }
-        Entry::Acquire(code) => {
-            let dealt = pages::acquire(state, pool, wide(code));
-            let after = dealt.state;
-            let base = dealt.base;
-            as_served(after, Line::Acquire(dealt.refusal, base, dealt.probes))
-        }
-        Entry::Release(base, code) => {
-            let done = pages::release(state, pool, base, wide(code));
-            let after = done.state;
-            as_served(after, Line::Release(done.refusal))
-        }
-        Entry::Report => {
-            let told = pages::report(state, pool);
-            let after = told.state;
-            as_served(
-                after,
-                Line::Report(
-                    told.refusal,
-                    told.seeded,
-                    told.free,
-                    told.largest,
-                    told.used,
-                ),
-            )
-        }
-        Entry::Bad(refusal) => as_served(state, Line::Bad(refusal)),
-        Entry::End => as_served(state, Line::End),
-    }
+    let (state, line) = match entry {
+        Entry::Seed(start, end) => match pages::seed(state, pool, start, end) {
+            Ok(after) => (after, Line::Seed(0)),
+            Err(refusal) => (state, Line::Seed(refusal.number())),
+        },
+        Entry::Acquire(code) => match pages::acquire(state, pool, u64::from(code)) {
+            Ok((after, page)) => (after, Line::Acquire(0, page.base, page.probes)),
+            Err(refusal) => (state, Line::Acquire(refusal.number(), Address(0), 0)),
+        },
+        Entry::Release(base, code) => match pages::release(state, pool, base, u64::from(code)) {
+            Ok(after) => (after, Line::Release(0)),
+            Err(refusal) => (state, Line::Release(refusal.number())),
+        },
+        Entry::Report => match pages::report(state, pool) {
+            Ok(told) => {
+                let largest = told.largest.map_or(0, PageSize::code);
+                let line = Line::Report(0, told.seeded, told.free, largest, told.used);
+                (state, line)
+            }
+            Err(refusal) => (state, Line::Report(refusal.number(), 0, 0, 0, 0)),
+        },
+        Entry::Bad(refusal) => (state, Line::Bad(refusal)),
+        Entry::End => (state, Line::End),
+    };
+    Served { state, line }
 }
 
-// Serves the entry that starts at an index of the journal.
+/// Serves the entry that starts at an index of the journal.
 pub fn step(state: State, pool: &mut [u32], journal: &[u8], at: usize) -> Stepped
-    ensures { Steps (store state pool.old) journal.now at result.line (store result.state pool.new) result.next }
+    ensures { let before = store state pool.old in
+        Steps before journal.now at result.line (store result.state pool.new) result.next }
 {
-    let reading = read_entry(journal, at);
-    let entry = reading.entry;
-    let done = serve(state, pool, entry);
-    let after = done.state;
-    let line = done.line;
-    Stepped {
-        state: after,
-        line,
-        next: reading.next,
-    }
+    let Reading { entry, next } = read_entry(journal, at);
+    let Served { state, line } = serve(state, pool, entry);
+    Stepped { state, line, next }
 }

@@ -8,51 +8,46 @@ use Rattle.sizes.specs.Six.{six}
 use Rattle.sizes.proofs.Six.{six-multiplies}
 use Rattle.model.specs.Calls.{Call, acquire, report}
 use Rattle.pool.specs.Limits.{places, pool_limit}
-use Rattle.pages.specs.declared.State.{State}
+use Rattle.pages.specs.declared.state.State.{State}
 use Rattle.pages.specs.Calls.{Reply, store, plain, deal, tell, Places, Replies, fresh_reply}
 use Rattle.pages.specs.Room.{Plans}
 use Rattle.demands.proofs.Unique.{unique, plans-unique}
-use Rattle.page_store_c.specs.declared.StoreState.{StoreState}
 use Rattle.page_store_c.specs.declared.StoreDone.{StoreDone}
 use Rattle.page_store_c.specs.declared.StoreDealt.{StoreDealt}
 use Rattle.page_store_c.specs.declared.StoreReported.{StoreReported}
 use Rattle.page_store_c.specs.declared.StoreRoom.{StoreRoom}
-use Rattle.page_store_c.specs.Boundary.{inner, Tells}
-
--- the C state that holds a state of the page store
-abbrev outer : State → StoreState
-outer s = record { used = s.used; starts = s.starts; ends = s.ends }
+use Rattle.page_store_c.specs.Boundary.{Tells}
 
 -- the answers that a reply says
 abbrev done_of : Reply → StoreDone
-done_of r = record { refusal = r.refusal; state = outer r.store.state }
+done_of r = record { refusal = r.refusal; state = r.store.state }
 
 abbrev dealt_of : Reply → StoreDealt
-dealt_of r = record { refusal = r.refusal; state = outer r.store.state; base = r.base; probes = r.probes }
+dealt_of r = record { refusal = r.refusal; state = r.store.state; base = r.base; probes = r.probes }
 
 abbrev reported_of : Reply → StoreReported
-reported_of r = record { refusal = r.refusal; state = outer r.store.state; seeded = r.seeded; free = r.free; largest = r.largest; used = r.used }
+reported_of r = record { refusal = r.refusal; state = r.store.state; seeded = r.seeded; free = r.free; largest = r.largest; used = r.used }
 
 -- FRESH
-pub fresh-unique : (p q q' : List ℕ) (d d' : StoreDone) → plain d.refusal (store (inner d.state) q) ≡ fresh_reply six places pool_limit p → plain d'.refusal (store (inner d'.state) q') ≡ fresh_reply six places pool_limit p → (d ≡ d') × (q ≡ q')
+pub fresh-unique : (p q q' : List ℕ) (d d' : StoreDone) → plain d.refusal (store d.state q) ≡ fresh_reply six places pool_limit p → plain d'.refusal (store d'.state q') ≡ fresh_reply six places pool_limit p → (d ≡ d') × (q ≡ q')
 fresh-unique p q q' d d' h h' = let e = h ∙ sym h' in (ap done_of e, ap (λ (r : Reply). r.store.pool) e)
 
 -- the state s and the pool p that came in; what the other calls answer and leave
-module _ (s : StoreState) (p : List ℕ) (a : Places six places pool_limit (store (inner s) p)) where
+module _ (s : State) (p : List ℕ) (a : Places six places pool_limit (store s p)) where
   -- one reply
-  one : (c : Call) (r r' : Reply) → Replies six places pool_limit (store (inner s) p) c r → Replies six places pool_limit (store (inner s) p) c r' → r ≡ r'
-  one c r r' h h' = unique six places pool_limit six-multiplies (store (inner s) p) c r r' h h' a
+  one : (c : Call) (r r' : Reply) → Replies six places pool_limit (store s p) c r → Replies six places pool_limit (store s p) c r' → r ≡ r'
+  one c r r' h h' = unique six places pool_limit six-multiplies (store s p) c r r' h h' a
 
   -- SEED AND RELEASE
-  pub done-unique : (c : Call) (q q' : List ℕ) (d d' : StoreDone) → Replies six places pool_limit (store (inner s) p) c (plain d.refusal (store (inner d.state) q)) → Replies six places pool_limit (store (inner s) p) c (plain d'.refusal (store (inner d'.state) q')) → (d ≡ d') × (q ≡ q')
+  pub done-unique : (c : Call) (q q' : List ℕ) (d d' : StoreDone) → Replies six places pool_limit (store s p) c (plain d.refusal (store d.state q)) → Replies six places pool_limit (store s p) c (plain d'.refusal (store d'.state q')) → (d ≡ d') × (q ≡ q')
   done-unique c q q' d d' h h' = let e = one c _ _ h h' in (ap done_of e, ap (λ (r : Reply). r.store.pool) e)
 
   -- ACQUIRE
-  pub dealt-unique : (c : ℕ) (q q' : List ℕ) (d d' : StoreDealt) → Replies six places pool_limit (store (inner s) p) (acquire c) (deal d.refusal (store (inner d.state) q) d.base d.probes) → Replies six places pool_limit (store (inner s) p) (acquire c) (deal d'.refusal (store (inner d'.state) q') d'.base d'.probes) → (d ≡ d') × (q ≡ q')
+  pub dealt-unique : (c : ℕ) (q q' : List ℕ) (d d' : StoreDealt) → Replies six places pool_limit (store s p) (acquire c) (deal d.refusal (store d.state q) d.base d.probes) → Replies six places pool_limit (store s p) (acquire c) (deal d'.refusal (store d'.state q') d'.base d'.probes) → (d ≡ d') × (q ≡ q')
   dealt-unique c q q' d d' h h' = let e = one (acquire c) _ _ h h' in (ap dealt_of e, ap (λ (r : Reply). r.store.pool) e)
 
   -- REPORT: the pool is only read
-  pub reported-unique : (d d' : StoreReported) → Replies six places pool_limit (store (inner s) p) report (tell d.refusal (store (inner d.state) p) d.seeded d.free d.largest d.used) → Replies six places pool_limit (store (inner s) p) report (tell d'.refusal (store (inner d'.state) p) d'.seeded d'.free d'.largest d'.used) → d ≡ d'
+  pub reported-unique : (d d' : StoreReported) → Replies six places pool_limit (store s p) report (tell d.refusal (store d.state p) d.seeded d.free d.largest d.used) → Replies six places pool_limit (store s p) report (tell d'.refusal (store d'.state p) d'.seeded d'.free d'.largest d'.used) → d ≡ d'
   reported-unique d d' h h' = ap reported_of (one report _ _ h h')
 
 -- CHECK: of a statement
@@ -66,5 +61,5 @@ module _ (P : Type 0) where
       go (no e) (no f) = omega (arith, e, f, h.bit, h'.bit)
 
 -- ROOM_FOR
-pub room-unique : (s : StoreState) (a e : ℕ) (d d' : StoreRoom) → Plans six places pool_limit (inner s) a e d.refusal d.words → Plans six places pool_limit (inner s) a e d'.refusal d'.words → d ≡ d'
-room-unique s a e d d' h h' = let x = plans-unique six places pool_limit (inner s) a e _ _ _ _ h h' in ap₂ (λ (n w : ℕ). record { refusal = n; words = w }) x.0 x.1
+pub room-unique : (s : State) (a e : ℕ) (d d' : StoreRoom) → Plans six places pool_limit s a e d.refusal d.words → Plans six places pool_limit s a e d'.refusal d'.words → d ≡ d'
+room-unique s a e d d' h h' = let x = plans-unique six places pool_limit s a e _ _ _ _ h h' in ap₂ (λ (n w : ℕ). record { refusal = n; words = w }) x.0 x.1

@@ -1,13 +1,13 @@
 -- What an acquire, a release and a report of a sound store ask of the functions below them, and their replies by what these answer. For the six sizes. Assumes nothing.
-use mathlib.Core.Path.{◌≡◌, refl, sym, ap, ap₂, ◌∙◌, subst}
+use mathlib.Core.Path.{◌≡◌, refl, sym, ap, ◌∙◌, subst}
 use mathlib.Core.Logic.{◌⊎◌, inl, inr}
-use mathlib.Core.Bool.{Bool, true, false, true≢false, not, cond, ◌&&◌}
+use mathlib.Core.Bool.{Bool, true, false, cond, ◌&&◌}
 use mathlib.Core.List.{List, [], ◌∷◌}
 use Prim.Native.Nat.{ℕ, zero, suc, pred, ◌+◌, ◌-◌, ◌*◌, ◌/◌, ◌%◌, ◌≤◌, ◌<◌}
 use native.Mathlib.Omega.{arith}
 use lib.Dec.{leb, ltb, eqb}
-use lib.ListN.{length, set}
-use borrow.Author.Tests.{ltb-true, ltb-false, leb-true, leb-false, eqb-true, eqb-false, le-ltb, lt-leb, le-leb, not-true, not-false}
+use lib.ListN.{length}
+use borrow.Author.Tests.{ltb-true, ltb-false, leb-true, leb-false, eqb-true, eqb-false, le-ltb, le-leb}
 use Rattle.sizes.specs.Ladder.{smallest, largest as largest_code, bytes, code, frame_address, address_frame}
 use Rattle.sizes.specs.Six.{six}
 use Rattle.sizes.proofs.Six.{six-multiplies, largest-most, bytes-largest, bytes_most}
@@ -23,7 +23,7 @@ use Rattle.model.proofs.Count.{free_frames-count}
 use Rattle.model.proofs.Frames.{count_same}
 use Rattle.model.proofs.Regions.{seeded-count}
 use Rattle.pool.specs.Limits.{places, pool_limit, most_frames}
-use Rattle.pool.specs.Words.{word, pack, max_of, frames_of}
+use Rattle.pool.specs.Words.{word, max_of, frames_of}
 use Rattle.pool.specs.Nodes.{words, store_w, take_w}
 use Rattle.pool.specs.Room.{openings_w, pick_w, any_free_w}
 use Rattle.pool.specs.View.{view}
@@ -36,9 +36,8 @@ use Rattle.pool.proofs.Kept.{shape-readable, sound_w-tree, sound_w-largest, take
 use Rattle.pool.proofs.Pick.{pick_w-is}
 use Rattle.pool.proofs.Sizes.{page, frames-own, root-level, small-six, top-frames, frame-address}
 use Rattle.pool.proofs.With.{newest-sum, newest-fit}
-use Rattle.pages.specs.declared.State.{State}
 use Rattle.pages.specs.Frames.{is_free}
-use Rattle.pages.specs.Calls.{Store, Reply, store, deal, tell, plain, settle, SoundStore, no_regions, refusals, acted, lacks_room, refusal_of, served, Replies, fresh_reply, Places}
+use Rattle.pages.specs.Calls.{Store, store, deal, tell, plain, settle, SoundStore, refusals, acted, lacks_room, refusal_of, served, Places}
 use Rattle.pages.proofs.Decide.{sound-check, sound-words}
 use Rattle.pages.proofs.Shown.{free-view}
 use Rattle.pages.proofs.Refusals.{Named, acquire-1, acquire-8, acquire-9, acquire-0, release-1, release-2, release-3, release-6, release-7, release-9, release-0}
@@ -126,38 +125,6 @@ module _ (s : Store) where
   accepted-reply : (c : Call) → refusal_of six places pool_limit s c ≡ 0 → acted six places pool_limit s c ≡ served six places pool_limit s c
   unfolding served
   accepted-reply c e = ap (λ (x : ℕ). settle x s (acted six places pool_limit s c)) (sym e)
-
-  -- the check b has said no
-  pub unsound-replies : (c : Call) (b : Bool) → not b ≡ true → (SoundStore six places pool_limit s → b ≡ true) → Replies six places pool_limit s c (plain 10 s)
-  unsound-replies c b e k = record { unsound = λ n. refl; sound = λ h. absurd (true≢false (sym (k h) ∙ not-true b e)) }
-
-  -- it has said yes, and the call is served
-  pub sound-replies : (c : Call) (b : Bool) (r : Reply) → not b ≡ false → (b ≡ true → SoundStore six places pool_limit s) → r ≡ served six places pool_limit s c → Replies six places pool_limit s c r
-  sound-replies c b r e k q = record { unsound = λ n. absurd (n (k (not-false b e))); sound = λ h. q }
-
--- ---- fresh
--- a pool that has no word
-pub fresh-none : (p : List ℕ) (t : State) → t ≡ no_regions places 0 → length p ≡ 0 → plain 11 (store t p) ≡ fresh_reply six places pool_limit p
-unfolding fresh_reply
-fresh-none p t e z =
-    let q : leb 1 (length p) ≡ false = lt-leb 1 (length p) (omega arith) in
-    ap (λ (x : State). plain 11 (store x p)) e ∙ sym (ap (λ (v : Bool). cond (v && leb (length p) pool_limit) (plain 0 (store (no_regions places 1) (set p 0 (pack 0 0 (largest_code six) 0)))) (plain 11 (store (no_regions places 0) p))) q)
-
--- one that has too many
-pub fresh-long : (p : List ℕ) (t : State) → t ≡ no_regions places 0 → 1 ≤ length p → pool_limit < length p → plain 11 (store t p) ≡ fresh_reply six places pool_limit p
-unfolding fresh_reply
-fresh-long p t e lo z =
-    let q : leb 1 (length p) ≡ true = le-leb 1 (length p) lo in
-    let r : leb (length p) pool_limit ≡ false = lt-leb (length p) pool_limit z in
-    ap (λ (x : State). plain 11 (store x p)) e ∙ sym (ap₂ (λ (v w : Bool). cond (v && w) (plain 0 (store (no_regions places 1) (set p 0 (pack 0 0 (largest_code six) 0)))) (plain 11 (store (no_regions places 0) p))) q r)
-
--- a pool that may be one: v is the new root
-pub fresh-root : (p : List ℕ) (t : State) (v : ℕ) → t ≡ no_regions places 1 → v ≡ pack 0 0 (largest_code six) 0 → 1 ≤ length p → length p ≤ pool_limit → plain 0 (store t (set p 0 v)) ≡ fresh_reply six places pool_limit p
-unfolding fresh_reply
-fresh-root p t v e f lo hi =
-    let q : leb 1 (length p) ≡ true = le-leb 1 (length p) lo in
-    let r : leb (length p) pool_limit ≡ true = le-leb (length p) pool_limit hi in
-    ap₂ (λ (x : State) (y : ℕ). plain 0 (store x (set p 0 y))) e f ∙ sym (ap₂ (λ (v w : Bool). cond (v && w) (plain 0 (store (no_regions places 1) (set p 0 (pack 0 0 (largest_code six) 0)))) (plain 11 (store (no_regions places 0) p))) q r)
 
 -- ---- a sound store
 module _ (s : Store) (a : Places six places pool_limit s) (h : SoundStore six places pool_limit s) where
@@ -342,13 +309,6 @@ module _ (s : Store) (a : Places six places pool_limit s) (h : SoundStore six pl
   module _ (b n c k : ℕ) (e : c ≡ code six n) (z : c ≡ 0 → ⊥) (ek : k ≡ bytes six c) where
     bytes_of : k ≡ bytes six n
     bytes_of = ek ∙ ap (bytes six) (code-some n c e z).0
-
-    pub size-some : 0 < k
-    size-some = let w = code-some n c e z in omega (arith, bytes_of, bytes-in n w.1 w.2, frames-some n w.1)
-      where
-        frames-some : (m : ℕ) → 1 ≤ m → 1 ≤ frames_of six m
-        frames-some zero l = absurd (omega arith)
-        frames-some (suc d) l = frames-pos six d
 
     pub release-odd : (b % k ≡ 0 → ⊥) → 2 ≡ refusal (release b n)
     release-odd o = let w = code-some n c e z in sym (release-2 six places pool_limit six-multiplies small-six s a h b n w.1 w.2 (λ y. o (ap (λ (m : ℕ). b % m) bytes_of ∙ y)))

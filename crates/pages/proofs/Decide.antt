@@ -1,5 +1,5 @@
 -- The check decides Sound, and Sound is sound words whose tokens are covered by regions that pass. Assumes nothing.
-use mathlib.Core.Bool.{Bool, true}
+use mathlib.Core.Bool.{true}
 use mathlib.Core.List.{List}
 use mathlib.Core.Path.{◌≡◌, sym, ap, ◌∙◌}
 use Prim.Native.Nat.{ℕ, zero, suc, ◌-◌, ◌≤◌}
@@ -13,6 +13,7 @@ use Rattle.model.specs.Ladder.{top}
 use Rattle.model.specs.TreeStore.{covered}
 use Rattle.pool.specs.Regions.{regions_of}
 use Rattle.pages.specs.Sound.{Node, Sound}
+use Rattle.pages.specs.PassesCheck.{PassesCheck}
 use Rattle.pool.specs.Words.{fan_out_of, frames_of, token_of, word}
 use Rattle.pool.specs.Blocks.{By, Ok, Shape, size}
 use Rattle.pool.specs.Check.{SoundW, passes, sweep, walk}
@@ -23,15 +24,6 @@ use Rattle.pool.proofs.Needed.{size_is, sweep-yes}
 use Rattle.pages.proofs.Nodes.{all_of, below_all, below-marked, marked-of, marked-rule}
 use Rattle.pages.proofs.Quiet.{node-pos, passes-inside, passes_of, passes-rule}
 use Rattle.pool.proofs.Walk.{All, all_here, walk-ok, walk-yes}
-
--- what the check has found when it says yes
-pub record Checked (L : Ladder) (lies : ℕ → ℕ → Bool) (limit used : ℕ) (starts ends p : List ℕ) : Type 0 where
-  pub low : 1 ≤ used
-  pub high : used ≤ length p
-  pub limited : length p ≤ limit
-  pub regions : regions_pass L starts ends ≡ true
-  pub walked : walk (fan_out_of L) (frames_of L) lies p (passes (fan_out_of L) (frames_of L) p (regions_of L starts ends)) used (suc (top L)) 0 0 0 ≡ used - 1
-  pub swept : sweep (fan_out_of L) p (suc (top L)) (used - 1) 1 0 ≡ true
 
 -- ---- the walk and the sweep say yes exactly where all nodes pass
 module _ (L : Ladder) (rs : List Region) (p : List ℕ) where
@@ -86,10 +78,10 @@ module _ (L : Ladder) (rs : List Region) (p : List ℕ) where
 
 module _ (L : Ladder) (mu : MultipliesUp L) (most limit used : ℕ) (starts ends p : List ℕ) (ls : length starts ≡ most) (le : length ends ≡ most) where
   -- THE CHECK DECIDES SOUND
-  pub check_sound : Checked L ltb limit used starts ends p → Sound L ltb most limit used starts ends p
+  pub check_sound : PassesCheck L ltb limit used starts ends p → Sound L ltb most limit used starts ends p
   check_sound c = rules-sound L mu most limit used starts ends p ls le c.limited c.regions (yes-held L (regions_of L starts ends) p used c.low c.high c.walked c.swept)
 
-  pub sound-check : Sound L ltb most limit used starts ends p → Checked L ltb limit used starts ends p
+  pub sound-check : Sound L ltb most limit used starts ends p → PassesCheck L ltb limit used starts ends p
   sound-check s =
       let h = sound-rules L mu most limit used starts ends p ls le s in
       record {

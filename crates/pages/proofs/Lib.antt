@@ -15,3 +15,15 @@ pub mod Refusals
 pub mod Plans
 pub mod AskSeed
 pub mod AskCall
+pub mod Refused
+pub mod Turns
+pub mod SpanTests
+pub mod Ways
+pub mod Found
+pub mod Picks
+pub mod Counts
+pub mod Sweeps
+pub mod Seeds
+pub mod Runs
+pub mod Walked
+pub mod Decided

@@ -15,7 +15,7 @@ use Rattle.pool.specs.Regions.{regions_of}
 use Rattle.pool.specs.RegionTest.{regions_pass}
 use Rattle.pool.proofs.Planned.{room_by-room_for}
 use Rattle.pool.proofs.Regions.{regions-fit, regions-of, regions-if}
-use Rattle.pages.specs.declared.State.{State}
+use Rattle.pages.specs.declared.state.State.{State}
 use Rattle.pages.specs.Room.{with_region, region_refusal, room_or, Plans}
 use Rattle.pages.proofs.SeedTests.{spans-frames, Joins, joins}
 

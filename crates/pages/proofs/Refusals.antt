@@ -40,7 +40,8 @@ use Rattle.pages.specs.Calls.{Store, Places, tree_of, SoundStore, shown, refusal
 use Rattle.pages.specs.Frames.{is_free}
 use Rattle.pages.proofs.Decide.{sound-words}
 use Rattle.pages.proofs.Laws.{pool-laws}
-use Rattle.pages.proofs.SeedTests.{Spans, spans-frames, passing, test-4}
+use Rattle.pages.proofs.SeedTests.{spans-frames, passing, test-4}
+use Rattle.pages.specs.Span.{Spans}
 use Rattle.pages.proofs.Shown.{sound-state, shown-same}
 
 module _ (L : Ladder) where

@@ -4,14 +4,17 @@ use mathlib.Core.Bool.{Bool, true, false, not, true≢false}
 use mathlib.Core.List.{List, ◌∷◌}
 use Prim.Native.Nat.{ℕ, zero, suc, pred, ◌+◌, ◌*◌, ◌-◌, ◌/◌, ◌%◌, ◌≤◌, ◌<◌}
 use native.Mathlib.Omega.{arith}
-use native.Mathlib.Nat.{mul-le-mul}
+use native.Mathlib.Nat.{mul-le-mul, le-div_iff_mul-le, div-add-mod'}
 use native.Mathlib.Numerals.{sub-one, add-one}
 use lib.Dec.{eqb}
 use lib.ListN.{length, get_or, drop, drop_of_length-le}
 use borrow.Author.Tests.{eq-eqb, ne_eqb}
 use Rattle.sizes.specs.Ladder.{largest, address_frame}
 use Rattle.sizes.specs.Six.{six, most_code, most_children}
+use Rattle.sizes.specs.Size.{code_of}
+use Rattle.sizes.specs.declared.page_size.PageSize.{PageSize}
 use Rattle.sizes.proofs.Six.{six-multiplies}
+use Rattle.sizes.proofs.Size.{code-some, code-most}
 use Rattle.model.specs.Ladder.{frames, top}
 use Rattle.model.specs.Calls.{Region}
 use Rattle.model.specs.Frames.{bit}
@@ -29,6 +32,12 @@ use Rattle.pool.proofs.RegionTest.{passes_of, regions-here, regions-past, pass-s
 use Rattle.pool.proofs.Sizes.{top-frames, root-level}
 
 -- ---- the nodes of n frames
+-- the node of a frame of memory ends within memory
+pub node-within : (n f : ℕ) → 1 ≤ n → most_frames % n ≡ 0 → f < most_frames → suc (f / n) * n ≤ most_frames
+node-within n f some even l =
+    let below : most_frames / n ≤ f / n → ⊥ = λ h. omega (arith, (le-div_iff_mul-le some).0 h, div-add-mod' most_frames n, even) in
+    (le-div_iff_mul-le some).0 (omega (arith, below))
+
 -- what the code reads of one node
 pub met-none : (rs : List Region) (n i o : ℕ) → o ≡ sum (overlap (i * n) n) rs → o ≡ 0 → bit (meets rs n i) ≡ 0
 unfolding meets
@@ -92,6 +101,10 @@ touched-all r rs n x y e h = omega (arith, e, h)
 pub frames-divide : (code : ℕ) → 1 ≤ code → code ≤ most_code → most_frames % frames_of six code ≡ 0
 frames-divide zero lo hi = absurd (omega arith)
 frames-divide (suc d) lo hi = ap (λ (n : ℕ). n % frames six d) (sym top-frames) ∙ frames-mod six d (top six) (omega (arith, root-level))
+
+-- ... as is said of a size
+pub size-divides : (size : PageSize) → most_frames % frames_of six (code_of size) ≡ 0
+size-divides size = frames-divide (code_of size) (code-some size) (code-most size)
 
 -- the blocks of one code more
 pub blocks-next : (gs : List Region) (code f s t : ℕ) → 2 ≤ code → f ≡ fan_out_of six code → s ≡ frames_of six code → t ≡ touched_by gs s → blocks_by six gs (pred (pred (code + 1))) ≡ (f + 1) * t + blocks_by six gs (pred (pred code))

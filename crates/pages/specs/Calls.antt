@@ -10,7 +10,7 @@ use Rattle.pool.specs.Words.{word, pack, max_of}
 use Rattle.pool.specs.Nodes.{Words, words, store_w, take_w, seed_w}
 use Rattle.pool.specs.View.{view}
 use Rattle.pool.specs.Regions.{newest}
-use Rattle.pages.specs.declared.State.{State}
+use Rattle.pages.specs.declared.state.State.{State}
 use Rattle.pages.specs.Sound.{Sound}
 use Rattle.pages.specs.Frames.{is_free}
 

@@ -4,7 +4,7 @@ use Rattle.sizes.specs.Ladder.{Ladder, address_frame}
 use Rattle.model.specs.Calls.{Region, seed, verdict}
 use Rattle.model.specs.Room.{room_for}
 use Rattle.pool.specs.Regions.{Regions, regions_of, newest}
-use Rattle.pages.specs.declared.State.{State}
+use Rattle.pages.specs.declared.state.State.{State}
 use Rattle.pages.specs.Calls.{refusals}
 
 -- the region from a to e, and those of the state, in frames

@@ -1,223 +1,209 @@
-// Are state and pool sound? A node check and a block check call each other and count the words of the blocks they enter;
-// a sweep goes over the blocks. On any words and any numbers.
-ghost use Rattle.std.specs.Prelude.{◌≡◌, true, ℕ, ◌+◌, ◌-◌, ◌*◌, ◌≤◌, ◌<◌, length, ltb};
+// Are state and pool sound? A walk goes down from the root, tests each node and counts the words of
+// the blocks that it enters; a sweep goes over the blocks. On any words and any numbers.
+ghost use Rattle.std.specs.Prelude.{◌≡◌, ◌≢◌, ◌↔◌, ℕ, ◌+◌, ◌-◌, ◌≤◌, ◌<◌, length, ltb, unwrap_or, IfSome, IfNone, IsTrue};
 ghost use Rattle.sizes.specs.Six.{six, most_code};
-ghost use Rattle.model.specs.Calls.{Region};
-ghost use Rattle.pool.specs.Limits.{places, pool_limit, most_frames};
+ghost use Rattle.sizes.specs.Size.{code_of};
+ghost use Rattle.pool.specs.Limits.{places, pool_limit};
 ghost use Rattle.pool.specs.Words.{word as word_at, level_of, link_of, fan_out_of, frames_of};
 ghost use Rattle.pool.specs.Regions.{regions_of};
+ghost use Rattle.pool.specs.Check.{sweep as sweep_of, marks_pass, in_regions};
 ghost use Rattle.pages.specs.Sound.{Sound};
-ghost use Rattle.pool.specs.Check.{sweep as sweep_of, marks_pass, in_regions, passes as passes_of, Enter, walk, walk_block};
 
-use crate::ladder::{fan_out_of, frames_of};
-use crate::node::{children_all, children_max};
-use crate::region::{covered, regions_pass};
-use crate::word::{level_of, link_of, max_of, token_of, wide, word};
-use sizes::{Frame, Place};
+use crate::children::{all_have_tokens, children, largest_max};
+use crate::ladder::{children_in, frames_in};
+use crate::span::Span;
+use crate::state::State;
+use crate::word::Node;
+use sizes::{Frame, PageSize, Place};
 
+/// The most words of a pool.
 pub const POOL_LIMIT: usize = 1048576;
 
-// Whether the words from place 1 up to used are whole blocks.
-fn sweep(pool: &[u32], used: usize) -> bool
-    requires { (used ≤ length pool.now) × (1 ≤ used) }
-    ensures { result ≡ sweep_of (fan_out_of six) pool.now most_code (used - 1) 1 0 }
+/// What is checked: the pool, and the state that says how many of its words are in use.
+#[derive(Clone, Copy)]
+struct Walk<'a> {
+    state: &'a State,
+    pool: &'a [u32],
+    ghost within: { state.now.used ≤ length pool.now },
+}
+
+/// Whether a node keeps the rules of max and token, by its children's largest max and whether they
+/// all have tokens.
+#[tactic(auto, using(crate::proofs::Walked::marks))]
+fn marks_pass(node: Node, size: PageSize, largest: u32, all: bool) -> bool
+    ensures { result ≡ marks_pass (code_of size) node.0 largest all }
 {
-    let mut s: usize = 1;
-    while s < used {
-        let h = wide(word(pool, Place(s)));
-        if h >= s {
+    if node.has_token() {
+        node.max() as usize == size.code() && largest == 0
+    } else {
+        node.max() == largest && !all
+    }
+}
+
+impl Walk<'_> {
+    ghost use Rattle.pages.specs.Walk.{InMemory, IsBlock, MayEnter, used_of, passes_at, grown_below, grown_below_children};
+
+    /// How many words the block at a place has, its header among them; none, where no block begins
+    /// there or it would not end within used.
+    fn block_words(&self, block: Place) -> Option<usize>
+        requires { block.0 < used_of self.now }
+        ensures whole { IfSome result
+            (IsBlock self.now.pool.now (used_of self.now) block.0) }
+        ensures broken { IfNone result
+            ((words : ℕ) → ¬ IsBlock self.now.pool.now (used_of self.now) block.0 words) }
+    {
+        let parent = self.pool[block.0] as usize;
+        if parent >= block.0 {
+            return None;
+        }
+        let node = Node::at(self.pool, Place(parent));
+        let size = PageSize::try_from(node.level() as u64).ok()?;
+        if node.link() != block.0 || size == PageSize::SMALLEST {
+            return None;
+        }
+        let words = children_in(size) + 1;
+        (words <= self.state.used - block.0).then_some(words)
+    }
+
+    /// Whether the words from place 1 up to used are whole blocks.
+    #[tactic(auto, using(crate::proofs::Walked::sweeps))]
+    fn sweep(&self) -> bool
+        requires { 1 ≤ used_of self.now }
+        ensures { result
+            ≡ sweep_of (fan_out_of six) self.now.pool.now most_code (used_of self.now - 1) 1 0 }
+    {
+        let mut block: usize = 1;
+        while block < self.state.used {
+            let Some(words) = self.block_words(Place(block)) else {
+                return false;
+            };
+            block += words;
+        }
+        true
+    }
+
+    /// Whether a token's block lies in the union of the regions. A node without a token has none.
+    #[tactic(auto, using(crate::proofs::Walked::regions))]
+    fn in_regions(&self, node: Node, size: PageSize, base: Frame) -> bool
+        requires { InMemory size base.0 }
+        ensures { result ≡ in_regions
+            (regions_of six self.now.state.now.starts self.now.state.now.ends)
+            node.0 base.0 (frames_of six (code_of size)) }
+    {
+        !node.has_token() || self.state.covers(Span::block(base, frames_in(size)))
+    }
+
+    /// Whether the node at a place keeps the rules of max and token.
+    // Most nodes are unopened: where it is inlined, a few tests are left of it there.
+    #[inline]
+    #[tactic(auto, using(crate::proofs::Walked::node_rules))]
+    fn passes(&self, place: Place, size: PageSize, base: Frame) -> bool
+        requires placed { place.0 < used_of self.now }
+        requires based { InMemory size base.0 }
+        requires opened { link_of (word_at self.now.pool.now place.0) ≢ 0 → 2 ≤ code_of size }
+        requires fits { link_of (word_at self.now.pool.now place.0) ≢ 0
+            → link_of (word_at self.now.pool.now place.0) + fan_out_of six (code_of size)
+            < used_of self.now }
+        ensures { result ≡ passes_at self.now (code_of size) place.0 base.0 }
+    {
+        let node = Node::at(self.pool, place);
+        if !self.in_regions(node, size, base) {
             return false;
         }
-        let v = word(pool, Place(h));
-        if link_of(v) != s {
+        match node.children() {
+            None => marks_pass(node, size, 0, false),
+            Some(first) => {
+                let below = children(self.pool, first, size);
+                marks_pass(node, size, largest_max(below), all_have_tokens(below))
+            }
+        }
+    }
+
+    /// Whether the child block of the node at a place may be entered with the count. The node has
+    /// one, and its level is that of the size.
+    fn may_enter(&self, place: Place, size: PageSize, count: usize) -> bool
+        requires placed { place.0 < used_of self.now }
+        requires counted { count < used_of self.now }
+        requires level { level_of (word_at self.now.pool.now place.0) ≡ code_of size }
+        requires opened { 1 ≤ link_of (word_at self.now.pool.now place.0) }
+        ensures { IsTrue result ↔ MayEnter self.now (code_of size) place.0 count }
+    {
+        if size == PageSize::SMALLEST {
             return false;
         }
-        let l = level_of(v);
-        if l < 2 {
-            return false;
+        let block = Node::at(self.pool, place).link();
+        let children = children_in(size);
+        place.0 < block
+            && block + children < self.state.used
+            && self.pool[block] as usize == place.0
+            && count + children + 1 < self.state.used
+    }
+
+    /// The count, grown by the words of all blocks below the node at a place; none, where a rule is
+    /// broken or the count would come to used.
+    // Inlined into its block's loop: a call for each node costs more than its tests.
+    #[inline(always)]
+    #[cycle(check)]
+    #[tactic(auto, using(crate::proofs::Walked::walks))]
+    fn node_check(&self, place: Place, size: PageSize, base: Frame, count: usize) -> Option<usize>
+        requires placed { place.0 < used_of self.now }
+        requires based { InMemory size base.0 }
+        requires counted { count < used_of self.now }
+        ensures exact { unwrap_or result (used_of self.now)
+            ≡ grown_below self.now (code_of size) place.0 base.0 count }
+        ensures below { IfSome result (λ grown. grown < used_of self.now) }
+    {
+        let node = Node::at(self.pool, place);
+        if node.level() != size.code() {
+            return None;
         }
-        if l > sizes::largest() {
-            return false;
+        let Some(first) = node.children() else {
+            return self.passes(place, size, base).then_some(count);
+        };
+        if !self.may_enter(place, size, count) || !self.passes(place, size, base) {
+            return None;
         }
-        let n = fan_out_of(l);
-        if n >= used - s {
-            return false;
+        self.block_check(first, size, base, count + children_in(size) + 1)
+    }
+
+    /// The same for all children of a node of the size, from the first one's place and the node's
+    /// first frame on.
+    #[cycle(check)]
+    #[tactic(auto, using(crate::proofs::Walked::block_walks))]
+    fn block_check(&self, first: Place, size: PageSize, base: Frame, count: usize) -> Option<usize>
+        requires opened { 2 ≤ code_of size }
+        requires placed { first.0 + fan_out_of six (code_of size) ≤ used_of self.now }
+        requires based { InMemory size base.0 }
+        requires counted { count < used_of self.now }
+        ensures exact { unwrap_or result (used_of self.now)
+            ≡ grown_below_children self.now (code_of size) first.0 base.0 count }
+        ensures below { IfSome result (λ grown. grown < used_of self.now) }
+    {
+        let below = size.smaller()?;
+        let frames = frames_in(below);
+        let mut grown = count;
+        for number in 0..children_in(size) {
+            let child = Place(first.0 + number);
+            let start = Frame(base.0 + number as u64 * frames);
+            grown = self.node_check(child, below, start, grown)?;
         }
-        s = s + n + 1;
+        Some(grown)
     }
-    true
 }
 
-// The rules of max and token: m is the children's max, all whether they all have tokens.
-fn marks_pass(level: usize, v: u32, m: u32, all: bool) -> bool
-    ensures { result ≡ marks_pass level v m all }
+/// Whether state and pool are sound.
+#[tactic(auto, using(crate::proofs::Decided::decides))]
+pub fn sound(state: &State, pool: &[u32]) -> bool
+    ensures { IsTrue result
+        ↔ Sound six ltb places pool_limit state.now.used state.now.starts state.now.ends pool.now }
 {
-    if token_of(v) == 0 {
-        if max_of(v) != m {
-            return false;
-        }
-        return !all;
-    }
-    if wide(max_of(v)) != level {
+    if state.used == 0 || state.used > pool.len() || pool.len() > POOL_LIMIT {
         return false;
     }
-    m == 0
-}
-
-// A token's block lies in the union of the regions.
-fn in_regions(starts: &[u64], ends: &[u64], v: u32, base: Frame, size: u64) -> bool
-    requires { (length starts.now ≡ places) × (length ends.now ≡ places) × (base.0 + size ≤ most_frames) }
-    ensures { result ≡ in_regions (regions_of six starts.now ends.now) v base.0 size }
-{
-    if token_of(v) == 0 {
-        return true;
-    }
-    covered(starts, ends, base, size)
-}
-
-// The rules of max and token at the node at q.
-fn passes(pool: &[u32], starts: &[u64], ends: &[u64], level: usize, q: Place, base: Frame) -> bool
-    requires { (length starts.now ≡ places) × (length ends.now ≡ places) × (q.0 < length pool.now) × ((link_of (word_at pool.now q.0) ≡ 0 → ⊥) → (2 ≤ level) × (link_of (word_at pool.now q.0) + fan_out_of six level < length pool.now)) × (1 ≤ level) × (level ≤ most_code) × (base.0 + frames_of six level ≤ most_frames) }
-    ensures { result ≡ passes_of (fan_out_of six) (frames_of six) pool.now (regions_of six starts.now ends.now) level q.0 base.0 }
-{
-    let v = word(pool, q);
-    if !in_regions(starts, ends, v, base, frames_of(level)) {
+    if !state.regions_pass() {
         return false;
     }
-    let link = link_of(v);
-    if link == 0 {
-        return marks_pass(level, v, 0, false);
-    }
-    let first = link + 1;
-    let n = fan_out_of(level);
-    marks_pass(
-        level,
-        v,
-        children_max(pool, Place(first), n),
-        children_all(pool, Place(first), n),
-    )
-}
-
-// Whether the block of the node at q, which has a link, may be entered with the count.
-fn may_enter(pool: &[u32], used: usize, q: Place, level: usize, link: Place, count: usize) -> bool
-    requires { (used ≤ length pool.now) × (q.0 < used) × (1 ≤ level) × (level ≤ most_code) × (count ≤ used) × (level_of (word_at pool.now q.0) ≡ level) × (link_of (word_at pool.now q.0) ≡ link.0) × (1 ≤ link.0) }
-    ensures { (result ≡ true → Enter (fan_out_of six) ltb pool.now used level q.0 count) × (Enter (fan_out_of six) ltb pool.now used level q.0 count → result ≡ true) }
-{
-    let at = q.0;
-    let block = link.0;
-    if level == 1 {
-        return false;
-    }
-    let n = fan_out_of(level);
-    if block <= at {
-        return false;
-    }
-    if block + n >= used {
-        return false;
-    }
-    if wide(word(pool, link)) != at {
-        return false;
-    }
-    count + n + 1 < used
-}
-
-// The count, grown by the words of all blocks below the node at q; used, where a rule is broken or the count would come to used.
-#[cycle(block_check_node_check)]
-fn node_check(
-    pool: &[u32],
-    used: usize,
-    starts: &[u64],
-    ends: &[u64],
-    q: Place,
-    level: usize,
-    base: Frame,
-    count: usize,
-) -> usize
-    requires { (used ≤ length pool.now) × (q.0 < used) × (length starts.now ≡ places) × (length ends.now ≡ places) × (1 ≤ level) × (level ≤ most_code) × (count ≤ used) × (base.0 + frames_of six level ≤ most_frames) }
-    ensures { (result ≡ walk (fan_out_of six) (frames_of six) ltb pool.now (passes_of (fan_out_of six) (frames_of six) pool.now (regions_of six starts.now ends.now)) used level q.0 base.0 count) × (result ≤ used) }
-{
-    let v = word(pool, q);
-    if level_of(v) != level {
-        return used;
-    }
-    let link = link_of(v);
-    if link == 0 {
-        if passes(pool, starts, ends, level, q, base) {
-            return count;
-        }
-        return used;
-    }
-    if !may_enter(pool, used, q, level, Place(link), count) {
-        return used;
-    }
-    if !passes(pool, starts, ends, level, q, base) {
-        return used;
-    }
-    let first = link + 1;
-    let n = fan_out_of(level);
-    block_check(
-        pool,
-        used,
-        starts,
-        ends,
-        Place(first),
-        n,
-        level - 1,
-        base,
-        count + n + 1,
-    )
-}
-
-// The same for n nodes of one level, from the place `first` and the frame `base` on.
-#[cycle(block_check_node_check)]
-fn block_check(
-    pool: &[u32],
-    used: usize,
-    starts: &[u64],
-    ends: &[u64],
-    first: Place,
-    n: usize,
-    level: usize,
-    base: Frame,
-    count: usize,
-) -> usize
-    requires { (used ≤ length pool.now) × (first.0 + n ≤ used) × (length starts.now ≡ places) × (length ends.now ≡ places) × (1 ≤ level) × (level ≤ most_code) × (count ≤ used) × (base.0 + n * frames_of six level ≤ most_frames) }
-    ensures { (result ≡ walk_block (walk (fan_out_of six) (frames_of six) ltb pool.now (passes_of (fan_out_of six) (frames_of six) pool.now (regions_of six starts.now ends.now)) used level) first.0 base.0 (frames_of six level) n count) × (result ≤ used) }
-{
-    let size = frames_of(level);
-    let mut at = first.0;
-    let mut b = base.0;
-    let mut left = n;
-    let mut c = count;
-    while left > 0 {
-        c = node_check(pool, used, starts, ends, Place(at), level, Frame(b), c);
-        at += 1;
-        b += size;
-        left -= 1;
-    }
-    c
-}
-
-// Whether state and pool are sound.
-pub fn sound(used: usize, starts: &[u64], ends: &[u64], pool: &[u32]) -> bool
-    requires { (length starts.now ≡ places) × (length ends.now ≡ places) }
-    ensures { (result ≡ true → Sound six ltb places pool_limit used starts.now ends.now pool.now) × (Sound six ltb places pool_limit used starts.now ends.now pool.now → result ≡ true) }
-{
-    if used == 0 {
-        return false;
-    }
-    if used > pool.len() {
-        return false;
-    }
-    if pool.len() > POOL_LIMIT {
-        return false;
-    }
-    if !regions_pass(starts, ends) {
-        return false;
-    }
-    let top = sizes::largest();
-    if node_check(pool, used, starts, ends, Place(0), top, Frame(0), 0) != used - 1 {
-        return false;
-    }
-    sweep(pool, used)
+    let walk = Walk { state, pool };
+    walk.node_check(Place(0), PageSize::LARGEST, Frame(0), 0) == Some(state.used - 1)
+        && walk.sweep()
 }

@@ -1,11 +1,15 @@
-// Why a replay stops before its end: the first read or write that fails, and nothing else. What was read whole before it has its
-// lines, but where they cannot be written.
+// Why a replay stops before its end.
 use std::{fmt, io};
 
+/// Why a replay stops before its end. What was read whole before it has its lines, but where they cannot be written.
 #[derive(Debug, Drop)]
 pub enum Failure {
+    /// Standard input cannot be read, or its buffer gets no memory.
     Input(io::Error),
+    /// Standard output cannot be written.
     Output(io::Error),
+    /// The journal has more entries than there are numbers for them.
+    TooLong,
 }
 
 impl fmt::Display for Failure {
@@ -13,6 +17,7 @@ impl fmt::Display for Failure {
         match self {
             Failure::Input(error) => write!(f, "standard input: {error}"),
             Failure::Output(error) => write!(f, "standard output: {error}"),
+            Failure::TooLong => write!(f, "standard input: more entries than there are numbers"),
         }
     }
 }

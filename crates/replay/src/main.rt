@@ -1,171 +1,90 @@
-// Replays a journal from standard input on a new store, and prints a line for each entry (document 01, 'Journal'). The work is that of
-// `journal`, which is proved; here are the buffers.
+// Replays a journal from standard input on a new store, and prints a line for each entry (document 01, 'Journal').
+// `journal` reads and serves the entries; here are the reader, the writer and the numbers of the lines.
 #![tactic(auto)]
 
 mod failure;
 mod input;
 mod output;
 
-ghost use Rattle.std.specs.Prelude.{◌≤◌, length};
+ghost use Rattle.std.specs.Prelude.{◌≡◌, List, ℕ, IfSome, OnOk, OnErr};
+ghost use Rattle.std.specs.Io.KnownBytes.{Appends};
+ghost use Rattle.std.specs.Io.Buffered.{reader_remaining};
+ghost use Rattle.pages.specs.Calls.{store};
+ghost use Rattle.replay.specs.Printed.{new_store, printed, after_first, AppendsPart, IsOutput, is_last};
 
 use failure::Failure;
-use journal::{Entry, LINE, Line};
+use input::ENTRY;
+use journal::Line;
+use output::Waiting;
 use pages::State;
+use std::alloc::Global;
 use std::io;
-use std::io::{Read, Write};
+use std::io::{BufReader, Read, Write};
 use std::process::ExitCode;
 
 // How many words the pool has.
 const POOL: usize = 16384;
 
-// How many bytes the buffers have, that of the input and that of the output.
-const BUFFER: usize = 4096;
-
-// A replay under way: the store's state, how many entries were served, the index behind them, how much of the output waits to
-// be written, and whether the run is over.
-#[derive(Clone, Copy)]
-struct Replay {
-    state: State,
-    entries: u64,
-    at: usize,
-    waiting: usize,
-    over: bool,
-}
-
-// Whether the entry at an index may be served: it is not cut short by the end of the bytes, or no more come.
-fn ready(bytes: &[u8], at: usize, last: bool) -> bool {
-    let reading = journal::read_entry(bytes, at);
-    let entry = reading.entry;
-    match entry {
-        Entry::End => false,
-        Entry::Bad(refusal) => last || refusal != journal::CUT_SHORT,
-        _ => true,
-    }
-}
-
 // Whether a line ends the run.
-fn ends(line: Line) -> bool {
-    match line {
-        Line::Bad(_) => true,
-        Line::End => true,
-        _ => false,
-    }
-}
-
-// Prints a line behind what waits, which is written first where there is no room for another.
-fn print<W: Write>(
-    output: &mut W,
-    replay: Replay,
-    text: &mut [u8; BUFFER],
-    line: Line,
-) -> Result<Replay, Failure> {
-    let mut next = replay;
-    if BUFFER - LINE < replay.waiting {
-        next.waiting = 0;
-        output::flush(output, text, replay.waiting).map_err(Failure::Output)?;
-    }
-    next.waiting = journal::line_text(next.entries, line, text, next.waiting);
-    Ok(next)
-}
-
-// Serves the next entry of the bytes and prints its line.
-fn serve<W: Write>(
-    output: &mut W,
-    replay: Replay,
-    pool: &mut [u32],
-    bytes: &[u8],
-    text: &mut [u8; BUFFER],
-) -> Result<Replay, Failure> {
-    let step = journal::step(replay.state, pool, bytes, replay.at);
-    let state = step.state;
-    let line = step.line;
-    let next = Replay {
-        state,
-        entries: replay.entries.wrapping_add(1),
-        at: step.next,
-        waiting: replay.waiting,
-        over: ends(line),
-    };
-    print(output, next, text, line)
-}
-
-// Serves the entries that stand whole in the bytes; all of them where no more come.
-fn serve_all<W: Write>(
-    output: &mut W,
-    replay: Replay,
-    pool: &mut [u32],
-    bytes: &[u8],
-    last: bool,
-    text: &mut [u8; BUFFER],
-) -> Result<Replay, Failure> {
-    let mut now = replay;
-    // An entry takes a byte at least.
-    for _ in 0..bytes.len() {
-        if now.over {
-            return Ok(now);
-        }
-        if !ready(bytes, now.at, last) {
-            return Ok(now);
-        }
-        now = serve(output, now, pool, bytes, text)?;
-    }
-    Ok(now)
-}
-
-// The first bytes of the buffer, as a slice.
-fn first(bytes: &[u8], to: usize) -> &[u8]
-    requires { to ≤ length bytes.now }
+fn ends(line: Line) -> bool
+    ensures { result ≡ is_last line }
 {
-    &bytes[..to]
+    matches!(line, Line::Bad(_) | Line::End)
 }
 
-// Replays the journal on a store up to its end. Where a read fails, what waits is written all the same.
-fn replay_journal<R: Read, W: Write>(
-    input: &mut R,
+// Serves the entries one after the other, from the first number on, and prints their lines.
+fn replay<R: Read, W: Write>(
+    input: &mut BufReader<R>,
     output: &mut W,
     state: State,
     pool: &mut [u32],
-) -> Result<(), Failure> {
-    let mut text = [0u8; BUFFER];
-    let mut now = Replay {
-        state,
-        entries: 0,
-        at: 0,
-        waiting: 0,
-        over: false,
-    };
-    let mut bytes = [0u8; BUFFER];
-    let mut end: usize = 0;
-    // No input is so long: the loop ends on any input.
-    for _ in 0..u64::MAX {
-        let filled = match input::refill(input, &mut bytes, now.at, end) {
-            Ok(filled) => filled,
-            Err(error) => {
-                output::flush(output, &text, now.waiting).map_err(Failure::Output)?;
-                return Err(Failure::Input(error));
-            }
-        };
-        end = filled.to;
-        now.at = 0;
-        let whole = first(&bytes, end);
-        now = serve_all(output, now, pool, whole, filled.ended, &mut text)?;
-        if now.over || filled.ended {
-            break;
+) -> Result<(), Failure>
+    requires { store state pool.old ≡ new_store }
+    ensures ok { OnOk result (IfSome (reader_remaining R.remaining input.old) (λ journal.
+        Appends (W.contents output.old) (W.contents output.new) (after_first journal))) }
+    ensures err { OnErr result (IfSome (reader_remaining R.remaining input.old) (λ journal.
+        AppendsPart (W.contents output.old) (W.contents output.new) (after_first journal))) }
+{
+    let mut now = state;
+    let mut entry = [0u8; ENTRY];
+    let mut waiting = Waiting::new();
+    for number in 1..u64::MAX {
+        let size = input::read_entry(input, output, &mut waiting, &mut entry)?;
+        let step = journal::step(now, pool, &entry[..size], 0);
+        now = step.state;
+        waiting.print(output, number, step.line)?;
+        if ends(step.line) {
+            return waiting.flush(output);
         }
     }
-    output::flush(output, &text, now.waiting).map_err(Failure::Output)
+    waiting.flush(output)?;
+    Err(Failure::TooLong)
 }
 
 // Writes the first line, and replays the journal on a new store.
-fn run<R: Read, W: Write>(input: &mut R, output: &mut W) -> Result<(), Failure> {
-    writeln!(output, "pool {}", POOL).map_err(Failure::Output)?;
+//
+// THE PROMISE OF THE PROGRAM, of a reader whose bytes are a journal: all of its output is written, or where a read or a write
+// fails the first bytes of it.
+#[tactic(auto, using(crate::proofs::Replayed::printed_replayed))]
+fn run<R: Read, W: Write>(alloc: Global, input: &mut R, output: &mut W) -> Result<(), Failure>
+    ensures ok { OnOk result (IfSome (R.remaining input.old) (λ journal.
+        Appends (W.contents output.old) (W.contents output.new) (printed journal))) }
+    ensures err { OnErr result (IfSome (R.remaining input.old) (λ journal.
+        AppendsPart (W.contents output.old) (W.contents output.new) (printed journal))) }
+    ensures replayed { (journal : List ℕ) → IsOutput journal (printed journal) }
+{
+    output::write_whole(output, b"pool 16384\n")?;
+    let mut reader = match BufReader::new(alloc, input) {
+        Ok(reader) => reader,
+        Err(error) => return Err(Failure::Input(error)),
+    };
     let mut pool = [0u32; POOL];
-    let made = pages::fresh(&mut pool);
-    replay_journal(input, output, made.state, &mut pool)
+    let state = pages::fresh(&mut pool).unwrap();
+    replay(&mut reader, output, state, &mut pool)
 }
 
 fn main(rt: HostRuntime) -> ExitCode {
-    match run(&mut rt.reader(), &mut io::writer(&rt)) {
+    match run(rt.alloc(), &mut rt.reader(), &mut io::writer(&rt)) {
         Ok(()) => ExitCode::SUCCESS,
         Err(failure) => {
             // Where standard error cannot be written either, the status says it.
@@ -242,7 +161,7 @@ mod tests {
             taken: Vec::new(rt.alloc()),
             room: 10000,
         };
-        let ended = run(&mut input, &mut output);
+        let ended = run(rt.alloc(), &mut input, &mut output);
         assert!(rt; ended.is_ok());
         let _ = ended;
         let wanted =
@@ -262,7 +181,10 @@ mod tests {
             taken: Vec::new(rt.alloc()),
             room: 10000,
         };
-        let failed = matches!(run(&mut input, &mut output), Err(Failure::Input(_)));
+        let failed = matches!(
+            run(rt.alloc(), &mut input, &mut output),
+            Err(Failure::Input(_))
+        );
         assert!(rt; failed);
         assert!(rt; output.taken.as_slice() == b"pool 16384\n1 seed 0\n".as_slice());
         Ok(())
@@ -279,7 +201,10 @@ mod tests {
             taken: Vec::new(rt.alloc()),
             room: 15,
         };
-        let failed = matches!(run(&mut input, &mut output), Err(Failure::Output(_)));
+        let failed = matches!(
+            run(rt.alloc(), &mut input, &mut output),
+            Err(Failure::Output(_))
+        );
         assert!(rt; failed);
         assert!(rt; output.taken.as_slice() == b"pool 16384\n1 se".as_slice());
         Ok(())

@@ -1,3 +1,4 @@
 pub mod Test
 pub mod Ladder
 pub mod Six
+pub mod Size

@@ -2,114 +2,171 @@
 // The expected lines are the original Rust's (`oracle sizes`).
 #![tactic(auto)]
 
-ghost use Rattle.std.specs.Prelude.{◌+◌, ◌≤◌, length};
+use sizes::{Address, PageSize};
+use std::io::{Read, Write};
+use std::{io, slice};
 
-use sizes::Address;
-use std::io;
-use std::io::Read;
+// How many rows are read at most.
+const ROWS: usize = 4096;
 
-// How many bytes of rows are read.
-const ROOM: usize = 65536;
+// The code of a size, 0 for none.
+fn code(size: Option<PageSize>) -> usize {
+    size.map_or(0, PageSize::code)
+}
 
-fn size_line(rt: &impl Print, size: usize) -> io::Result<()> {
-    println!(rt;
-        "size {size} {} {} {} {}",
-        sizes::in_bytes(size),
-        sizes::smaller(size),
-        sizes::larger(size),
-        sizes::number_of_smaller_pages(size)
+// What is said of a size.
+fn size_line(output: &mut impl Write, size: PageSize) -> io::Result<()> {
+    writeln!(
+        output,
+        "size {} {} {} {} {}",
+        size.code(),
+        size.in_bytes(),
+        code(size.smaller()),
+        code(size.larger()),
+        size.number_of_smaller_pages()
     )
 }
 
 // The child at the index, and the index of its address.
-fn child_line(rt: &impl Print, base: u64, size: usize, index: usize) -> io::Result<()> {
-    let child = sizes::child_address_and_size(Address(base), size, index);
-    let address = child.address.0;
-    println!(rt;
-        "child {base} {size} {index} {address} {} {}",
-        child.size,
-        sizes::calculate_child_index(Address(base), size, Address(address))
-    )
-}
-
-fn largest_line(rt: &impl Print, address: u64, end: u64) -> io::Result<()> {
-    println!(rt;
-        "largest {address} {end} {}",
-        sizes::find_largest_page_size(Address(address), Address(end))
+fn child_line(
+    output: &mut impl Write,
+    base: Address,
+    size: PageSize,
+    index: usize,
+) -> io::Result<()> {
+    let (address, below) = match sizes::child_address_and_size(base, size.code(), index) {
+        Some(child) => (child.address, child.size.code()),
+        None => (Address(0), 0),
+    };
+    let back = sizes::calculate_child_index(base, size.code(), address);
+    writeln!(
+        output,
+        "child {} {} {index} {} {below} {back}",
+        base.0,
+        size.code(),
+        address.0
     )
 }
 
 // The first, the second and the last child of the size's second node; of the largest size there is one node only.
-fn child_lines(rt: &impl Print, size: usize) -> io::Result<()> {
-    let base = if sizes::larger(size) == 0 {
-        0
-    } else {
-        sizes::in_bytes(size)
+fn child_lines(output: &mut impl Write, size: PageSize) -> io::Result<()> {
+    let base = match size.larger() {
+        Some(_) => Address(size.in_bytes()),
+        None => Address(0),
     };
-    let pages = sizes::number_of_smaller_pages(size);
+    let pages = size.number_of_smaller_pages();
     if 1 < pages {
-        child_line(rt, base, size, 0)?;
-        child_line(rt, base, size, 1)?;
-        child_line(rt, base, size, pages - 1)?;
-    }
-    Ok(())
-}
-
-fn size_lines(rt: &impl Print) -> io::Result<()> {
-    for size in 1..sizes::largest() + 1 {
-        size_line(rt, size)?;
-        child_lines(rt, size)?;
-    }
-    Ok(())
-}
-
-// The number whose eight bytes stand from an index on, the lowest first.
-fn number_at(row: &[u8; 16], at: usize) -> u64
-    requires { at + 8 ≤ 16 }
-{
-    u64::from_le_bytes([
-        row[at],
-        row[at + 1],
-        row[at + 2],
-        row[at + 3],
-        row[at + 4],
-        row[at + 5],
-        row[at + 6],
-        row[at + 7],
-    ])
-}
-
-fn largest_lines(rt: &impl Print, rows: &[u8]) -> io::Result<()> {
-    let (whole, _) = rows.as_chunks::<16>();
-    for row in whole {
-        largest_line(rt, number_at(row, 0), number_at(row, 8))?;
-    }
-    Ok(())
-}
-
-// Reads until the buffer is full, the input ends or a read fails, and answers how many bytes came, and that error.
-fn read_full<R: Read>(input: &mut R, buffer: &mut [u8]) -> (usize, io::Result<()>)
-    ensures { result.0 ≤ length buffer.old }
-{
-    let mut done = 0;
-    for _ in 0..buffer.len() {
-        match input.read(&mut buffer[done..]) {
-            Ok(got) => {
-                if got == 0 {
-                    return (done, Ok(()));
-                }
-                done += got;
-            }
-            Err(error) => return (done, Err(error)),
+        for index in [0, 1, pages - 1] {
+            child_line(output, base, size, index)?;
         }
     }
-    (done, Ok(()))
+    Ok(())
+}
+
+// What is said of each size and of its children.
+fn size_lines(output: &mut impl Write) -> io::Result<()> {
+    for size in PageSize::ALL {
+        size_line(output, size)?;
+        child_lines(output, size)?;
+    }
+    Ok(())
+}
+
+// Reads the next number; none where the input ends before it is whole.
+fn read_number(input: &mut impl Read) -> io::Result<Option<u64>> {
+    let mut bytes = [0; 8];
+    for byte in &mut bytes {
+        if input.read(slice::from_mut(byte))? == 0 {
+            return Ok(None);
+        }
+    }
+    Ok(Some(u64::from_le_bytes(bytes)))
+}
+
+// Reads the next row, an address and an end; none where the input ends before it is whole.
+fn read_row(input: &mut impl Read) -> io::Result<Option<(Address, Address)>> {
+    let Some(address) = read_number(input)? else {
+        return Ok(None);
+    };
+    let end = read_number(input)?;
+    Ok(end.map(|end| (Address(address), Address(end))))
+}
+
+// What is said of each row, as long as they come whole.
+fn row_lines(input: &mut impl Read, output: &mut impl Write) -> io::Result<()> {
+    for _ in 0..ROWS {
+        let Some((address, end)) = read_row(input)? else {
+            break;
+        };
+        let largest = code(sizes::find_largest_page_size(address, end));
+        writeln!(output, "largest {} {} {largest}", address.0, end.0)?;
+    }
+    Ok(())
+}
+
+// All lines. Where a read fails, the rows before it have theirs.
+fn lines(input: &mut impl Read, output: &mut impl Write) -> io::Result<()> {
+    size_lines(output)?;
+    row_lines(input, output)
 }
 
 fn main(rt: HostRuntime) -> io::Result<()> {
-    size_lines(&rt)?;
-    let mut buffer = [0u8; ROOM];
-    let (n, read) = read_full(&mut rt.reader(), &mut buffer);
-    largest_lines(&rt, &buffer[..n])?;
-    read
+    lines(&mut rt.reader(), &mut io::writer(&rt))
+}
+
+#[cfg(test)]
+mod tests {
+    use super::*;
+    use std::test::Fail;
+
+    // Gives the bytes that are left, and then fails.
+    #[derive(Drop)]
+    struct Source<'a> {
+        left: &'a [u8],
+    }
+
+    impl Read for Source<'_> {
+        fn read(&mut self, buf: &mut [u8]) -> io::Result<usize> {
+            let left = self.left;
+            if left.len() == 0 {
+                return Err(io::Error::from_raw_os_error(5));
+            }
+            let most = left.len().min(buf.len());
+            buf[..most].copy_from_slice(&left[..most]);
+            self.left = &left[most..];
+            Ok(most)
+        }
+    }
+
+    // Takes all bytes.
+    #[derive(Drop)]
+    struct Sink {
+        taken: Vec<u8>,
+    }
+
+    impl Write for Sink {
+        fn write(&mut self, buf: &[u8]) -> io::Result<usize> {
+            self.taken.extend_from_slice(buf)?;
+            Ok(buf.len())
+        }
+
+        fn flush(&mut self) -> io::Result<()> {
+            Ok(())
+        }
+    }
+
+    #[test]
+    fn a_read_fails(rt: HostRuntime) -> Result<(), Fail> {
+        let mut rows = [0; 40];
+        rows[9] = 16;
+        rows[25] = 64;
+        let mut output = Sink {
+            taken: Vec::new(rt.alloc()),
+        };
+        let ended = row_lines(&mut Source { left: &rows }, &mut output);
+        assert!(rt; ended.is_err());
+        let _ = ended;
+        assert!(rt; output.taken.as_slice() == b"largest 0 4096 1\nlargest 0 16384 2\n".as_slice());
+        Ok(())
+    }
 }

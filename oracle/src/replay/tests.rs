@@ -60,28 +60,30 @@ fn a_program_that_is_not_there_cannot_be_started() {
     assert!(text.starts_with("no/such/program cannot be started: "), "{text}");
 }
 
-/// Each byte of each kind of entry is the first one behind the program's buffer once, in a journal that goes on and in
-/// one that ends there.
+/// Each byte of each kind of entry is the first one behind each of the program's buffers once, in a journal that goes on
+/// and in one that ends there.
 #[test]
 fn buffers_end_in_every_entry() {
-    let mut offsets = BTreeSet::new();
-    let mut cut = 0;
-    for bytes in buffer_ends() {
-        let (entries, bad) = decode(&bytes);
-        cut += usize::from(bad.is_some_and(|bad| bad.refusal() == 13));
-        let mut at = 0;
-        for entry in entries {
-            let length = encode(&[entry]).len();
-            if at < BUFFER && BUFFER < at + length {
-                offsets.insert((entry.name(), BUFFER - at));
+    for buffer in BUFFERS {
+        let mut offsets = BTreeSet::new();
+        let mut cut = 0;
+        for bytes in buffer_ends(buffer) {
+            let (entries, bad) = decode(&bytes);
+            cut += usize::from(bad.is_some_and(|bad| bad.refusal() == 13));
+            let mut at = 0;
+            for entry in entries {
+                let length = encode(&[entry]).len();
+                if at < buffer && buffer < at + length {
+                    offsets.insert((entry.name(), buffer - at));
+                }
+                at += length;
             }
-            at += length;
         }
+        let wanted = [("seed", 17), ("acquire", 2), ("release", 10)];
+        let wanted = wanted.into_iter().flat_map(|(name, length)| (1..length).map(move |offset| (name, offset)));
+        assert_eq!(offsets, wanted.collect());
+        assert_eq!(cut, 16 + 3 + 2 * 9);
     }
-    let wanted = [("seed", 17), ("acquire", 2), ("release", 10)];
-    let wanted = wanted.into_iter().flat_map(|(name, length)| (1..length).map(move |offset| (name, offset)));
-    assert_eq!(offsets, wanted.collect());
-    assert_eq!(cut, 16 + 3 + 2 * 9);
 }
 
 #[test]

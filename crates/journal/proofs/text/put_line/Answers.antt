@@ -1,15 +1,7 @@
 -- The parts of a line, one behind the other. Assumes nothing.
-use borrow.Author.Rules.{rules}
-use Rattle.journal.proofs.Lines.{line-printed}
+use Rattle.journal.proofs.Lines.{line_printed}
 use Rattle.journal.proofs.text.put_line.Goals as goal
 
-pub returns : goal.returns
-returns c = record {
-  upper_bound = search rules;
-  put = let a = c.args in
-      let d = c.put_decimal-next in
-      let s = c.put-next in
-      let n = c.put-next-2 in
-      let r = c.put_numbers-next in
-      line-printed a.number a.name.now a.numbers.now d.ensures.put s.ensures n.ensures r.ensures.put c.put.ensures;
-}
+pub returns-clause-put : goal.returns-clause-put
+returns-clause-put c =
+    line_printed _ _ _ c.put_decimal-next.ensures.put c.put-next.ensures c.put-next-2.ensures c.put_numbers-next.ensures.put c.put.ensures

@@ -1,135 +1,153 @@
-use Prim.Native.Nat.{ℕ, pred, ◌+◌, ◌*◌, ◌-◌, ◌≤◌, ◌<◌}
-use native.Mathlib.Omega.{arith}
-use native.Mathlib.Numerals.{sub-one}
-use mathlib.Core.List.{List}
-use mathlib.Core.Path.{◌≡◌, refl, sym, ap, ap₂, ◌∙◌, subst}
-use lib.ListN.{length}
-use Rattle.sizes.specs.Six.{six, most_code, most_children}
-use Rattle.pool.specs.Words.{fan_out_of, first_child}
+use Rattle.std.proofs.Common.{List, ℕ, pred, ◌≡◌, ◌+◌, ◌*◌, ◌-◌, ◌≤◌, ◌<◌, length, leb, refl, sym, ap, ap₂, ◌∙◌, subst, sub-one, arith}
+use Rattle.sizes.specs.Six.{six, most_children}
+use Rattle.sizes.specs.Size.{code_of}
+use Rattle.sizes.proofs.Six.{fan_out-most}
+use Rattle.sizes.proofs.Size.{code-some, code-most, same-size, under-size}
+use Rattle.model.specs.Ladder.{frames}
+use Rattle.model.specs.Lists.{first}
+use Rattle.pool.specs.Words.{fan_out_of, first_child, frames_of, max_of}
 use Rattle.pool.specs.Nodes.{Taken, mark_w, refresh_w, take_w, children_first, words}
 use Rattle.pool.proofs.AskTake.{taken, take-here, take_open, take-run, take-look, TakeDown, take-down-at}
-use Rattle.pool.proofs.Sizes.{frames-below}
+use Rattle.pool.proofs.Sizes.{fan_out-at, frames-below}
+use Rattle.pages.proofs.Runs.{length-run}
 use Rattle.pages.proofs.node.+acquire_page_token.Goals as goal
-use Rattle.pages.proofs.node.+acquire_page_token.Goals.{After-divide_page_token_if_necessary, After-frames_of-size}
+use Rattle.pages.proofs.node.+acquire_page_token.Goals.{After-first_child-first, After-first_child_with_room-number, After-frames_in}
 
--- below the early return the block lies under the node's level
-abbrev above : (t : ℕ) (c : After-divide_page_token_if_necessary t) → c.args.code < c.args.level
-above t c = omega arith
-
--- the pool after opening and handing on: there is a child with room
-abbrev look : (t : ℕ) (c : After-divide_page_token_if_necessary t) →
-    (let s = c.args in let P : List ℕ = c.divide_page_token_if_necessary.new.pool in
-    (s.q.0 < length P) × (first_child P s.q.0 + fan_out_of six s.level ≤ length P) × (children_first s.code P (first_child P s.q.0) (fan_out_of six s.level) < fan_out_of six s.level))
+-- after opening and handing on there is a child with room
+abbrev look : (t : ℕ) (c : After-first_child-first t) →
+    (let a = c.args in let pool : List ℕ = c.divide_page_token_if_necessary.new.pool in let at : ℕ = c.first_child-first.result.0 in
+    (at ≡ first_child pool a.node.0) × (at + fan_out_of six (code_of a.size) ≤ length pool) × (children_first (code_of a.wanted) pool at (fan_out_of six (code_of a.size)) < fan_out_of six (code_of a.size)))
 look t c =
     let a = c.args in
     let i = c.initialize_children_if_needed-opened in
     let d = c.divide_page_token_if_necessary in
-    take-look a.level a.code a.pool.now a.used a.q.0 i.new.pool d.new.pool c.requires (above t c) i.ensures.0 d.ensures
+    let pool : List ℕ = d.new.pool in
+    let n : ℕ = fan_out_of six (code_of a.size) in
+    let at : c.first_child-first.result.0 ≡ first_child pool a.node.0 = omega (arith, c.first_child-first.ensures, c.at.ensures) in
+    let l = take-look (code_of a.size) (code_of a.wanted) a.pool.now a.used a.node.0 i.new.pool pool c.requires (under-size a.size a.wanted c.requires.deep (sym c.eq.ensures ∙ c.if-eq.false)) i.ensures.pool d.ensures in
+    (at, omega (arith, at, l.1), omega (arith, l.2, ap (λ (x : ℕ). children_first (code_of a.wanted) pool x n) at))
+
+-- the child's number, in the words of the pool
+number : (t : ℕ) (c : After-first_child_with_room-number t) →
+    (let a = c.args in c.first_child_with_room-number.result ≡ children_first (code_of a.wanted) c.divide_page_token_if_necessary.new.pool c.first_child-first.result.0 (fan_out_of six (code_of a.size)))
+unfolding children_first
+number t c = c.first_child_with_room-number.ensures ∙ ap (first (λ v. leb (code_of c.args.wanted) (max_of v))) c.children.ensures
 
 -- what the call below asks for and gives
-down : (t : ℕ) (c : After-frames_of-size t) →
-    (let s = c.args in let i = c.initialize_children_if_needed-opened in let d = c.divide_page_token_if_necessary in let k = c.link_of-first in let n = c.first_child_with_room-i in
-    TakeDown s.level s.code s.pool.now s.used s.q.0 d.new.pool i.result (s.level - 1) (k.result + 1 + n.result) n.result c.frames_of-size.result)
+down : (t : ℕ) (c : After-first_child_with_room-number t) →
+    (let a = c.args in let i = c.initialize_children_if_needed-opened in let d = c.divide_page_token_if_necessary in
+    let at : ℕ = c.first_child-first.result.0 in let n : ℕ = c.first_child_with_room-number.result in
+    TakeDown (code_of a.size) (code_of a.wanted) a.pool.now a.used a.node.0 d.new.pool i.result (code_of c.in-Some.below) (at + n) n (frames six (pred (pred (code_of a.size)))))
 down t c =
     let a = c.args in
     let i = c.initialize_children_if_needed-opened in
     let d = c.divide_page_token_if_necessary in
-    let v = c.word in
-    let k = c.link_of-first in
-    let f = c.fan_out_of-n in
-    let n = c.first_child_with_room-i in
-    let l = (let above-here : c.args.code < c.args.level = omega arith in above-here) in
-    take-down-at a.level a.code a.pool.now a.used a.q.0 i.new.pool d.new.pool i.result (a.level - 1) (k.result + 1) (k.result + 1 + n.result) f.result n.result c.frames_of-size.result
-    c.requires l i.ensures.0 d.ensures i.ensures.1 (sub-one a.level) (omega (arith, k.ensures.0, v.ensures)) f.ensures.0 n.ensures refl
-    (c.frames_of-size.ensures.0 ∙ frames-below a.level (omega (arith, c.requires.lo, l)))
+    let at : ℕ = c.first_child-first.result.0 in
+    let n : ℕ = c.first_child_with_room-number.result in
+    let e : code_of c.in-Some.below ≡ code_of a.size - 1 = c.in-Some.ensures.below in
+    take-down-at (code_of a.size) (code_of a.wanted) a.pool.now a.used a.node.0 i.new.pool d.new.pool i.result (code_of c.in-Some.below) at (at + n) (fan_out_of six (code_of a.size)) n (frames six (pred (pred (code_of a.size))))
+    c.requires (under-size a.size a.wanted c.requires.deep (sym c.eq.ensures ∙ c.if-eq.false)) i.ensures.pool d.ensures i.ensures.used (e ∙ sub-one (code_of a.size))
+    (omega (arith, c.first_child-first.ensures, c.at.ensures)) refl (number t c) refl refl
 
--- the child's number is below the most children, the level is the highest code at most
-near : (t : ℕ) (c : After-frames_of-size t) → (c.first_child_with_room-i.result < most_children) × (2 ≤ c.args.level) × (c.args.level ≤ most_code)
-near t c =
-    let v = c.word in
-    let k = c.link_of-first in
-    let f = c.fan_out_of-n in
-    let P : List ℕ = c.divide_page_token_if_necessary.new.pool in
-    let e : k.result + 1 ≡ first_child P c.args.q.0 = omega (arith, k.ensures.0, v.ensures) in (
-      omega (
-        arith,
-        c.first_child_with_room-i.ensures,
-        (let look-here : (let s = c.args in let P : List ℕ = c.divide_page_token_if_necessary.new.pool in
-            (s.q.0 < length P) × (first_child P s.q.0 + fan_out_of six s.level ≤ length P) × (children_first s.code P (first_child P s.q.0) (fan_out_of six s.level) < fan_out_of six s.level)) = let a = c.args in
-            let i = c.initialize_children_if_needed-opened in
-            let d = c.divide_page_token_if_necessary in
-            take-look a.level a.code a.pool.now a.used a.q.0 i.new.pool d.new.pool c.requires (let above-here : c.args.code < c.args.level = omega arith in above-here) i.ensures.0 d.ensures in look-here).2,
-        f.ensures.0,
-        f.ensures.1,
-        ap₂ (children_first c.args.code P) e f.ensures.0,
-      ),
-      omega (arith, c.requires.lo, (let above-here : c.args.code < c.args.level = omega arith in above-here)),
-      c.requires.hi,
-    )
-
-pub returns-then-level-code : goal.returns-then-level-code
-returns-then-level-code t c =
-    let s = c.args in
-    let S = words s.pool.now s.used in
-    let e : s.level ≡ s.code = omega arith in
-    let h = take-here s.level S s.q.0 (omega arith) in
-    let k = subst (λ (x : ℕ). take_w six (pred s.level) (pred x) S s.q.0 ≡ taken (mark_w 0 S s.q.0) 0 0) e h in (
-      c.set_marks.ensures ∙ ap (λ (x : Taken). x.words.pool) (sym k),
-      ap (λ (x : Taken). x.words.used) (sym k),
-      ap (λ (x : Taken). x.base) (sym k),
-      ap (λ (x : Taken). x.probes) (sym k),
-      omega arith,
-    )
-
-pub initialize_children_if_needed-opened-requires : goal.initialize_children_if_needed-opened-requires
-initialize_children_if_needed-opened-requires t c =
+-- the frames of a child
+size : (t : ℕ) (c : After-frames_in t) → c.frames_in.result ≡ frames six (pred (pred (code_of c.args.size)))
+size t c =
     let a = c.args in
-    take_open a.level a.code a.pool.now a.used a.q.0 c.requires (omega arith)
+    let l = under-size a.size a.wanted c.requires.deep (sym c.eq.ensures ∙ c.if-eq.false) in
+    c.frames_in.ensures.exact ∙ ap (frames_of six) c.in-Some.ensures.below ∙ frames-below (code_of a.size) (omega (arith, l, code-some a.wanted))
 
-pub divide_page_token_if_necessary-requires : goal.divide_page_token_if_necessary-requires
-divide_page_token_if_necessary-requires t c =
+-- so the child is one of the most that a node has
+near : (t : ℕ) (c : After-first_child-first t) (i : ℕ) →
+    i ≡ children_first (code_of c.args.wanted) c.divide_page_token_if_necessary.new.pool c.first_child-first.result.0 (fan_out_of six (code_of c.args.size)) → i < most_children
+near t c i e =
+    let n : ℕ = code_of c.args.size in
+    let l = under-size c.args.size c.args.wanted c.requires.deep (sym c.eq.ensures ∙ c.if-eq.false) in
+    omega (arith, (look t c).2, e, fan_out-most n, fan_out-at n (omega (arith, l, code-some c.args.wanted)) (code-most c.args.size))
+
+pub returns-then-eq : goal.returns-then-eq
+returns-then-eq t c =
+    let a = c.args in
+    let before = words a.pool.now a.used in
+    let e : code_of a.size ≡ code_of a.wanted = same-size a.size a.wanted (sym c.eq.ensures ∙ c.if-eq.true) in
+    let h = take-here (code_of a.size) before a.node.0 (code-some a.size) in
+    let k = subst (λ (x : ℕ). take_w six (pred (code_of a.size)) (pred x) before a.node.0 ≡ taken (mark_w 0 before a.node.0) 0 0) e h in
+    record {
+      pool = c.set_marks.ensures ∙ ap (λ (x : Taken). x.words.pool) (sym k);
+      used = ap (λ (x : Taken). x.words.used) (sym k);
+      base = ap (λ (x : Taken). x.base) (sym k);
+      probes = ap (λ (x : Taken). x.probes) (sym k);
+      few = omega arith;
+    }
+
+pub initialize_children_if_needed-opened-requires-clause-node : goal.initialize_children_if_needed-opened-requires-clause-node
+initialize_children_if_needed-opened-requires-clause-node t c =
+    let a = c.args in
+    take_open (code_of a.size) (code_of a.wanted) a.pool.now a.used a.node.0 c.requires (under-size a.size a.wanted c.requires.deep (sym c.eq.ensures ∙ c.if-eq.false))
+
+pub divide_page_token_if_necessary-requires-clause-node : goal.divide_page_token_if_necessary-requires-clause-node
+divide_page_token_if_necessary-requires-clause-node t c =
     let i = c.initialize_children_if_needed-opened in
     let a = c.args in
-    take-run a.level a.code a.pool.now a.used a.q.0 i.new.pool c.requires (omega arith) i.ensures.0
+    take-run (code_of a.size) (code_of a.wanted) a.pool.now a.used a.node.0 i.new.pool c.requires (under-size a.size a.wanted c.requires.deep (sym c.eq.ensures ∙ c.if-eq.false)) i.ensures.pool
 
-pub first_child_with_room-i-requires : goal.first_child_with_room-i-requires
-first_child_with_room-i-requires t c =
-    let f = c.fan_out_of-n in
-    let k = look t (goal.at.first_child_with_room-i-requires t c).After-divide_page_token_if_necessary in
-    let P : List ℕ = c.divide_page_token_if_necessary.new.pool in
-    let e : c.link_of-first.result + 1 ≡ first_child P c.args.q.0 = omega (arith, c.link_of-first.ensures.0, c.word.ensures) in
-    (omega (arith, k.1, f.ensures.0, e), omega (arith, k.2, f.ensures.0, ap₂ (children_first c.args.code P) e f.ensures.0))
+pub children-requires-clause-within : goal.children-requires-clause-within
+children-requires-clause-within t c = (look t (goal.at.children-requires-clause-within t c).After-first_child-first).1
+
+pub first_child_with_room-number-requires : goal.first_child_with_room-number-requires
+unfolding children_first
+first_child_with_room-number-requires t c =
+    let k = look t (goal.at.first_child_with_room-number-requires t c).After-first_child-first in
+    let e = length-run c.divide_page_token_if_necessary.new.pool c.first_child-first.result.0 (fan_out_of six (code_of c.args.size)) k.1 in
+    omega (arith, k.2, e, ap length c.children.ensures, ap (first (λ v. leb (code_of c.args.wanted) (max_of v))) c.children.ensures)
 
 pub overflow_add-child : goal.overflow_add-child
-overflow_add-child t c = let k = (down t (goal.at.overflow_add-child t c).After-frames_of-size).ask in omega (arith, k.readable.at, k.readable.fit, k.cap)
+overflow_add-child t c = let k = (down t (goal.at.overflow_add-child t c).After-first_child_with_room-number).ask in omega (arith, k.readable.at, k.readable.fit, k.cap)
 
-pub acquire_page_token-t-requires : goal.acquire_page_token-t-requires
-acquire_page_token-t-requires t c = (omega (arith, (near t (goal.at.acquire_page_token-t-requires t c).After-frames_of-size).1), (down t (goal.at.acquire_page_token-t-requires t c).After-frames_of-size).ask)
+pub acquire_page_token-taken-requires : goal.acquire_page_token-taken-requires
+acquire_page_token-taken-requires t c =
+    let e : code_of c.in-Some.below ≡ code_of c.args.size - 1 = c.in-Some.ensures.below in
+    (omega (arith, e, code-some c.args.size), (down t (goal.at.acquire_page_token-taken-requires t c).After-first_child_with_room-number).ask)
 
 pub refresh_max-requires : goal.refresh_max-requires
-refresh_max-requires t c = (down t (goal.at.refresh_max-requires t c).After-frames_of-size).after c.acquire_page_token-t.new.pool c.acquire_page_token-t.ensures.0
+refresh_max-requires t c = (down t (goal.at.refresh_max-requires t c).After-first_child_with_room-number).after c.acquire_page_token-taken.new.pool c.acquire_page_token-taken.ensures.pool
 
-pub overflow_mul-base : goal.overflow_mul-base
-overflow_mul-base t c = omega (arith, (down t (goal.at.overflow_mul-base t c).After-frames_of-size).small)
-
-pub overflow_add-base : goal.overflow_add-base
-overflow_add-base t c = omega (arith, (down t (goal.at.overflow_add-base t c).After-frames_of-size).small, c.acquire_page_token-t.ensures.2)
+pub overflow_mul-result : goal.overflow_mul-result
+overflow_mul-result t c =
+    let k = goal.at.overflow_mul-result t c in
+    let n : ℕ = c.first_child_with_room-number.result in
+    omega (arith, (down t k.After-first_child_with_room-number).small, ap (λ (x : ℕ). n * x) (size t k.After-frames_in))
 
 pub overflow_add-result : goal.overflow_add-result
-overflow_add-result t c = let f = near t (goal.at.overflow_add-result t c).After-frames_of-size in omega (arith, c.acquire_page_token-t.ensures.4, f.0, f.2)
+overflow_add-result t c =
+    let k = goal.at.overflow_add-result t c in
+    let n : ℕ = c.first_child_with_room-number.result in
+    omega (arith, (down t k.After-first_child_with_room-number).small, ap (λ (x : ℕ). n * x) (size t k.After-frames_in), c.acquire_page_token-taken.ensures.base)
 
 pub overflow_add-result-2 : goal.overflow_add-result-2
-overflow_add-result-2 t c = let f = near t (goal.at.overflow_add-result-2 t c).After-frames_of-size in omega (arith, c.acquire_page_token-t.ensures.4, f.0, f.2)
+overflow_add-result-2 t c =
+    let k = goal.at.overflow_add-result-2 t c in
+    let n = near t k.After-first_child-first c.first_child_with_room-number.result (number t k.After-first_child_with_room-number) in
+    omega (arith, n, c.acquire_page_token-taken.ensures.few, code-most c.in-Some.below)
+
+pub overflow_add-result-3 : goal.overflow_add-result-3
+overflow_add-result-3 t c =
+    let k = goal.at.overflow_add-result-3 t c in
+    let n = near t k.After-first_child-first c.first_child_with_room-number.result (number t k.After-first_child_with_room-number) in
+    omega (arith, n, c.acquire_page_token-taken.ensures.few, code-most c.in-Some.below)
 
 pub returns : goal.returns
 returns t c =
-    let r = c.acquire_page_token-t in
-    let s = c.args in
-    let e = (down t (goal.at.returns t c).After-frames_of-size).same in
-    let i : ℕ = c.first_child_with_room-i.result in (
-      c.refresh_max.ensures ∙ ap (λ (x : List ℕ). refresh_w six (pred (pred s.level)) x s.q.0) r.ensures.0 ∙ sym (ap (λ (x : Taken). x.words.pool) e),
-      r.ensures.1 ∙ sym (ap (λ (x : Taken). x.words.used) e),
-      ap (λ (x : ℕ). i * c.frames_of-size.result + x) r.ensures.2 ∙ sym (ap (λ (x : Taken). x.base) e),
-      ap (λ (x : ℕ). x + i + 1) r.ensures.3 ∙ sym (ap (λ (x : Taken). x.probes) e),
-      omega (arith, r.ensures.4, (near t (goal.at.returns t c).After-frames_of-size).0, (near t (goal.at.returns t c).After-frames_of-size).1),
-    )
+    let k = goal.at.returns t c in
+    let r = c.acquire_page_token-taken in
+    let a = c.args in
+    let n : ℕ = c.first_child_with_room-number.result in
+    let e = (down t k.After-first_child_with_room-number).same in
+    let below : code_of c.in-Some.below ≡ code_of a.size - 1 = c.in-Some.ensures.below in
+    let few = near t k.After-first_child-first n (number t k.After-first_child_with_room-number) in
+    record {
+      pool = c.refresh_max.ensures ∙ ap (λ (x : List ℕ). refresh_w six (pred (pred (code_of a.size))) x a.node.0) r.ensures.pool ∙ sym (ap (λ (x : Taken). x.words.pool) e);
+      used = r.ensures.used ∙ sym (ap (λ (x : Taken). x.words.used) e);
+      base = ap₂ (λ (x y : ℕ). n * x + y) (size t k.After-frames_in) r.ensures.base ∙ sym (ap (λ (x : Taken). x.base) e);
+      probes = ap (λ (x : ℕ). x + n + 1) r.ensures.probes ∙ sym (ap (λ (x : Taken). x.probes) e);
+      few = omega (arith, few, r.ensures.few, below, code-some a.size);
+    }

@@ -1,22 +1,27 @@
 -- The node has a token, or it has none. Assumes nothing.
-use mathlib.Core.List.{List}
-use mathlib.Core.Path.{◌≡◌, sym, ap, ap₂, ◌∙◌}
-use Prim.Native.Nat.{ℕ, pred, ◌+◌}
-use native.Mathlib.Omega.{arith}
-use lib.ListN.{set}
+use Rattle.std.proofs.Common.{List, ℕ, ◌≡◌, pred, ◌+◌, set, refl, sym, ap, ap₂, ◌∙◌, arith}
+use borrow.Author.Tests.{true-eqb, false-eqb}
+use Rattle.sizes.specs.Six.{six}
+use Rattle.sizes.specs.Size.{code_of}
 use Rattle.pool.specs.Nodes.{map_run, with_marks}
+use Rattle.pool.specs.Words.{fan_out_of, has_token, token_of, word}
 use Rattle.pool.proofs.Ask.{hand-no, hand-yes}
+use Rattle.pages.proofs.Runs.{run-mapped}
 use Rattle.pages.proofs.node.divide_page_token_if_necessary.Goals as goal
 
-pub returns-then-token_of-ne1 : goal.returns-then-token_of-ne1
-returns-then-token_of-ne1 c =
-    sym (hand-no (pred (pred c.args.level)) c.args.pool.now c.args.q.0 (λ z. c.if-token_of-ne1.true (omega (arith, c.token_of.ensures.0))))
+pub returns-then-not-has_token : goal.returns-then-not-has_token
+returns-then-not-has_token c =
+    let node : ℕ = c.args.node.0 in
+    sym (hand-no (pred (pred (code_of c.args.size))) c.args.pool.now node (false-eqb (token_of (word c.args.pool.now node)) 1 (sym c.if-not-has_token.true ∙ c.has_token.ensures ∙ ap has_token c.at-word.ensures)))
 
 pub returns : goal.returns
 returns c =
-    let p : List ℕ = c.args.pool.now in
-    let a : ℕ = c.link_of-first.result + 1 in
-    let n : ℕ = c.fan_out_of-n.result in
-    let e : c.token_marks.result ≡ 7 + c.args.level = omega (arith, c.token_marks.ensures) in
-    ap₂ (λ (x : List ℕ) (y : ℕ). set x c.args.q.0 y) (c.mark_children.ensures ∙ ap (λ (x : ℕ). map_run (with_marks x) p a n) e) c.with_marks.ensures
-    ∙ sym (hand-yes c.args.level p c.args.q.0 a n c.requires (omega (arith, c.link_of-first.ensures.0)) c.fan_out_of-n.ensures.0 (omega (arith, c.token_of.ensures.0)))
+    let pool : List ℕ = c.args.pool.now in
+    let node : ℕ = c.args.node.0 in
+    let first : ℕ = c.first_child-first.result.0 in
+    let n : ℕ = fan_out_of six (code_of c.args.size) in
+    let marks : c.token_marks.result ≡ 7 + code_of c.args.size = omega (arith, c.token_marks.ensures.exact, c.requires.below, c.requires.node.lo) in
+    ap₂ (λ (x : List ℕ) (y : ℕ). set x node y)
+    (run-mapped (with_marks c.token_marks.result) pool first c.children_in.result n c.mark_all.new.children c.children_in.ensures.exact c.mark_all.ensures ∙ ap (λ (x : ℕ). map_run (with_marks x) pool first n) marks)
+    (c.with_marks.ensures ∙ ap (with_marks 0) c.at-word.ensures)
+    ∙ sym (hand-yes (code_of c.args.size) pool node first n c.requires.node (omega (arith, c.first_child-first.ensures, c.at-word.ensures)) refl (true-eqb (token_of (word pool node)) 1 (sym c.if-not-has_token.false ∙ c.has_token.ensures ∙ ap has_token c.at-word.ensures)))

@@ -1,21 +1,19 @@
 -- `open_node` writes a header, the children and the node. Assumes nothing.
-use mathlib.Core.List.{List}
-use mathlib.Core.Path.{ap, ◌∙◌, refl}
-use Prim.Native.Nat.{ℕ, ◌+◌}
-use native.Mathlib.Omega.{arith}
-use lib.ListN.{set}
-use Rattle.pool.specs.Words.{pack, word}
+use Rattle.std.proofs.Common.{List, ℕ, ◌+◌, set, refl, ap, ◌∙◌, arith}
+use Rattle.sizes.specs.Six.{six}
+use Rattle.sizes.specs.Size.{code_of}
+use Rattle.pool.specs.Words.{fan_out_of, pack}
 use Rattle.pool.proofs.Ask.{open-with}
+use Rattle.pages.proofs.Runs.{run-filled}
 use Rattle.pages.proofs.node.open_node.Goals as goal
 
--- the node has no link yet, and any place of the pool fits into one
-pub overflow_add-pool : goal.overflow_add-pool
-unfolding pack
-overflow_add-pool c = omega (arith, c.pack-2.ensures, c.requires.1, c.requires.0.fit, c.requires.0.cap)
-
 pub returns : goal.returns
+unfolding pack
 returns c =
-    let p : List ℕ = c.args.pool.now in
-    let w : ℕ = word p c.args.q.0 + c.pack-2.result in
-    ap (λ (x : List ℕ). set x c.args.q.0 w) c.fill_children.ensures
-    ∙ open-with c.args.level p c.args.used c.args.q.0 c.narrow.result c.pack.result (c.args.used + 1) c.fan_out_of.result w c.requires.0.lo c.narrow.ensures c.pack.ensures refl c.fan_out_of.ensures.0 (ap (λ (x : ℕ). word p c.args.q.0 + x) c.pack-2.ensures)
+    let pool : List ℕ = c.args.pool.now in
+    let used : ℕ = c.args.used in
+    let node : ℕ = c.args.node.0 in
+    let n : ℕ = fan_out_of six (code_of c.args.size) in
+    ap (λ (x : List ℕ). set x node c.opened-opened.result.0)
+    (run-filled c.new.result.0 (set pool used node) (used + 1) c.children_in.result n c.fill.new.self c.children_in.ensures.exact (c.fill.ensures.after (λ y h. h)))
+    ∙ open-with (code_of c.args.size) pool used node node c.new.result.0 (used + 1) n c.opened-opened.result.0 c.requires.node.lo refl (omega (arith, c.new.ensures, c.requires.below)) refl refl (omega (arith, c.opened-opened.ensures, c.at.ensures))

@@ -1,17 +1,17 @@
--- `refresh_max` writes the max of the run. Assumes nothing.
-use mathlib.Core.List.{List}
-use mathlib.Core.Path.{sym, ap, ◌∙◌}
-use Prim.Native.Nat.{ℕ, ◌+◌}
-use native.Mathlib.Omega.{arith}
-use lib.ListN.{set}
-use Rattle.pool.specs.Nodes.{with_marks}
-use Rattle.pool.specs.Words.{word}
+-- `refresh_max` writes the max of the children. Assumes nothing.
+use Rattle.std.proofs.Common.{List, ℕ, set, refl, sym, ap, ◌∙◌, arith}
+use Rattle.sizes.specs.Six.{six}
+use Rattle.sizes.specs.Size.{code_of}
+use Rattle.model.specs.Lists.{maximum}
+use Rattle.pool.specs.Nodes.{children_max, with_marks}
+use Rattle.pool.specs.Words.{fan_out_of, max_of, word}
 use Rattle.pool.proofs.Ask.{refresh-law}
 use Rattle.pages.proofs.node.refresh_max.Goals as goal
 
 pub returns : goal.returns
+unfolding children_max
 returns c =
-    let p : List ℕ = c.args.pool.now in
-    let q : ℕ = c.args.q.0 in
-    c.set_marks.ensures ∙ ap (λ (x : ℕ). set p q (with_marks x (word p q))) c.children_max-m.ensures.0
-    ∙ sym (refresh-law c.args.level p q (c.link_of-first.result + 1) c.fan_out_of.result c.requires (omega (arith, c.link_of-first.ensures.0, c.word.ensures)) c.fan_out_of.ensures.0)
+    let pool : List ℕ = c.args.pool.now in
+    let node : ℕ = c.args.node.0 in
+    c.set_marks.ensures ∙ ap (λ (x : ℕ). set pool node (with_marks x (word pool node))) (c.largest_max-largest.ensures.exact ∙ ap (maximum max_of) c.children.ensures)
+    ∙ sym (refresh-law (code_of c.args.size) pool node c.first_child-first.result.0 (fan_out_of six (code_of c.args.size)) c.requires (omega (arith, c.first_child-first.ensures, c.at.ensures)) refl)

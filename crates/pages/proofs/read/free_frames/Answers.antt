@@ -1,72 +1,78 @@
-use mathlib.Core.Path.{◌≡◌, ap, ap₂, ◌∙◌}
-use Prim.Native.Nat.{ℕ, ◌*◌}
+use mathlib.Core.Path.{◌≡◌, sym, ap, ◌∙◌}
+use Prim.Native.Nat.{ℕ, ◌+◌, ◌*◌}
+use lib.ListN.{length}
+use native.Mathlib.Nat.{zero-mul, one-mul}
 use native.Mathlib.Omega.{arith}
-use Rattle.sizes.proofs.Six.{largest-most}
+use borrow.Author.Tests.{eqb-true, eqb-false}
 use Rattle.sizes.specs.Six.{six}
+use Rattle.sizes.specs.Size.{code_of}
 use Rattle.model.specs.Ladder.{frames, top}
-use Rattle.pool.specs.Words.{frames_of, level_of, token_of, word}
-use Rattle.pool.proofs.FreeFrames.{Here, swept-end, swept-here, swept-next, swept-start, swept-turn}
-use Rattle.pool.proofs.Sizes.{root-level, top-frames}
+use Rattle.pool.specs.Words.{has_token, level_of, token_of, word, frames_of}
+use Rattle.pool.proofs.FreeFrames.{Swept, swept-end, swept-start}
+use Rattle.pool.proofs.Sizes.{top-frames, root-level}
+use Rattle.pages.proofs.Counts.{fan-most}
+use Rattle.pages.proofs.Sweeps.{sweep-node, sweep-least, sweep-most, sweep-fits, sweep-long, sweep-next}
 use Rattle.pages.proofs.read.free_frames.Goals as goal
-use Rattle.pages.proofs.read.free_frames.Goals.{After-level_of-level}
+use Rattle.pages.proofs.read.free_frames.Goals.{After-level, After-frames_in, then-has_token, else-has_token}
 
--- where the turn's level is known, a block starts at s, and ends before the used words do
-abbrev here : (c : After-level_of-level)
-    → Here six (top six) c.args.pool.now c.args.used c.level_of-level.result c.loop-s.s
-here c =
-    let l = c.loop-s in
-    let p = c.args.pool.now in
-    let named : c.wide-h.result ≡ word p l.s = c.wide-h.ensures ∙ c.word-in-loop-s.ensures in
-    let is : c.level_of-level.result ≡ level_of (word p (word p l.s)) = c.level_of-level.ensures.0 ∙ ap level_of c.word-in-loop-s-2.ensures ∙ ap (λ (x : ℕ). level_of (word p x)) named in
-    swept-here six (top six) p c.args.used c.requires l.total l.s c.level_of-level.result l.invariant (omega arith) is
-
--- before the first turn the root's own frames are counted
-pub loop-s-init : goal.loop-s-init
-loop-s-init c =
-    let token : c.token_of.result ≡ token_of (word c.args.pool.now 0) = c.token_of.ensures.0 ∙ ap token_of c.word.ensures in
-    let size : c.frames_of.result ≡ frames six (top six) = c.frames_of.ensures.0 ∙ ap (frames_of six) (c.largest-root.ensures.0 ∙ largest-most ∙ root-level) in
-    swept-start six (top six) c.args.pool.now c.args.used c.requires (c.token_of.result * c.frames_of.result) (ap₂ (λ (x y : ℕ). x * y) token size)
+-- the level that is read is the node's that the header names
+abbrev level_is : (c : After-level) → c.level.result ≡ level_of (word c.args.pool.now (word c.args.pool.now c.loop-header.header))
+level_is c = c.level.ensures.exact ∙ ap level_of c.at-node.ensures
 
 -- the next turn
-pub loop-s-preserved : goal.loop-s-preserved
-loop-s-preserved c =
-    let l = c.loop-s in
-    let r = here (goal.at.loop-s-preserved c).After-level_of-level in
-    swept-next six (top six) c.args.pool.now c.args.used c.requires l.total l.s c.level_of-level.result c.fan_out_of-n.result c.tokens_in-tokens.result c.frames_of-in-loop-s.result
-    l.invariant (omega arith) r.is c.fan_out_of-n.ensures.0 c.tokens_in-tokens.ensures.0 c.frames_of-in-loop-s.ensures.0
+next : (c : After-frames_in) → Swept six (top six) c.args.pool.now c.args.used (c.loop-header.total + c.tokens_in.result * c.frames_in.result) (c.loop-header.header + (1 + length c.children-block.result.now))
+next c =
+    let l = c.loop-header in
+    sweep-next c.args.pool.now c.args.used l.total l.header c.requires l.invariant (omega arith) (code_of c.in-Ok.size) (c.in-Ok.ensures ∙ c.level.ensures.exact ∙ ap level_of c.at-node.ensures)
+    c.children-block.result.now c.children-block.ensures c.tokens_in.result c.frames_in.result c.tokens_in.ensures (c.frames_in.ensures.exact ∙ ap (frames_of six) c.in-Some.ensures.below)
 
-pub frames_of-requires : goal.frames_of-requires
-frames_of-requires c = omega (arith, c.largest-root.ensures.0, largest-most)
+-- before the first turn the root's own frames are counted
+pub loop-header-init : goal.loop-header-init
+loop-header-init c = swept-start six (top six) c.args.pool.now c.args.used c.requires c.if-has_token.total (elim c.if-has_token.branch [
+  | then-has_token w ↦
+      let t : token_of (word c.args.pool.now 0) ≡ 1 = eqb-true (token_of (word c.args.pool.now 0)) 1 (ap has_token (sym c.at.ensures) ∙ sym c.has_token.ensures ∙ w.if-has_token.true) in
+      w.total-is ∙ w.frames_in-total.ensures.exact ∙ ap (frames_of six) root-level ∙ sym (one-mul (frames six (top six))) ∙ ap (λ (n : ℕ). n * frames six (top six)) (sym t)
+  | else-has_token w ↦
+      let ne = eqb-false (token_of (word c.args.pool.now 0)) 1 (ap has_token (sym c.at.ensures) ∙ sym c.has_token.ensures ∙ w.if-has_token.false) in
+      let t : token_of (word c.args.pool.now 0) ≡ 0 = omega (arith, ne) in
+      w.total-is ∙ sym (zero-mul (frames six (top six))) ∙ ap (λ (n : ℕ). n * frames six (top six)) (sym t)
+])
 
-pub word-requires-in-loop-s-2 : goal.word-requires-in-loop-s-2
-word-requires-in-loop-s-2 c =
-    let l = c.loop-s in
-    let r = swept-turn six (top six) c.args.pool.now c.args.used c.requires l.total l.s l.invariant (omega arith) in
-    omega (arith, r.before, c.wide-h.ensures, c.word-in-loop-s.ensures, c.requires.shape.high)
+pub at-node-requires : goal.at-node-requires
+at-node-requires c = sweep-node c.args.pool.now c.args.used c.loop-header.total c.loop-header.header c.requires c.loop-header.invariant (omega arith)
 
-pub fan_out_of-n-requires : goal.fan_out_of-n-requires
-fan_out_of-n-requires c = let r = here (goal.at.fan_out_of-n-requires c).After-level_of-level in omega (arith, r.low, r.high, root-level)
+-- the level is a size's, and not the smallest
+pub returns-in_default-clause-exact : goal.returns-in_default-clause-exact
+returns-in_default-clause-exact c =
+    let l = c.loop-header in
+    absurd (c.in_default.ensures.1 (
+      omega (arith, sweep-least c.args.pool.now c.args.used l.total l.header c.requires l.invariant (omega arith) c.level.result (level_is (goal.at.returns-in_default-clause-exact c).After-level)),
+      sweep-most c.args.pool.now c.args.used l.total l.header c.requires l.invariant (omega arith) c.level.result (level_is (goal.at.returns-in_default-clause-exact c).After-level),
+    ))
 
-pub tokens_in-tokens-requires : goal.tokens_in-tokens-requires
-tokens_in-tokens-requires c = let r = here (goal.at.tokens_in-tokens-requires c).After-level_of-level in omega (arith, r.fits, c.fan_out_of-n.ensures.0, c.requires.shape.high)
+pub returns-in_default-smaller-clause-exact : goal.returns-in_default-smaller-clause-exact
+returns-in_default-smaller-clause-exact c =
+    let l = c.loop-header in
+    absurd (omega (arith, c.in_default-smaller.ensures.below, c.in-Ok.ensures, sweep-least c.args.pool.now c.args.used l.total l.header c.requires l.invariant (omega arith) c.level.result (level_is (goal.at.returns-in_default-smaller-clause-exact c).After-level)))
 
-pub overflow_sub-level : goal.overflow_sub-level
-overflow_sub-level c = let r = here (goal.at.overflow_sub-level c).After-level_of-level in omega (arith, r.low)
+pub children-block-requires-clause-within : goal.children-block-requires-clause-within
+children-block-requires-clause-within c =
+    let l = c.loop-header in
+    sweep-fits c.args.pool.now c.args.used l.total l.header c.requires l.invariant (omega arith) (code_of c.in-Ok.size) (c.in-Ok.ensures ∙ level_is (goal.at.children-block-requires-clause-within c).After-level)
 
-pub frames_of-requires-in-loop-s : goal.frames_of-requires-in-loop-s
-frames_of-requires-in-loop-s c = let r = here (goal.at.frames_of-requires-in-loop-s c).After-level_of-level in omega (arith, r.low, r.high, root-level)
+pub tokens_in-requires : goal.tokens_in-requires
+tokens_in-requires c =
+    let l = c.loop-header in
+    omega (arith, fan-most c.in-Ok.size, sweep-long c.args.pool.now c.args.used l.total l.header c.requires l.invariant (omega arith) (code_of c.in-Ok.size) (c.in-Ok.ensures ∙ level_is (goal.at.tokens_in-requires c).After-level) c.children-block.result.now c.children-block.ensures)
+
+pub overflow_mul-total : goal.overflow_mul-total
+overflow_mul-total c = omega (arith, top-frames, (next (goal.at.overflow_mul-total c).After-frames_in).most)
 
 pub overflow_add-total : goal.overflow_add-total
-overflow_add-total c = let r = (let l = c.loop-s in
-    let r = (let here-here : Here six (top six) c.args.pool.now c.args.used c.level_of-level.result c.loop-s.s = let l = c.loop-s in
-    let p = c.args.pool.now in
-    let named : c.wide-h.result ≡ word p l.s = c.wide-h.ensures ∙ c.word-in-loop-s.ensures in
-    let is : c.level_of-level.result ≡ level_of (word p (word p l.s)) = c.level_of-level.ensures.0 ∙ ap level_of c.word-in-loop-s-2.ensures ∙ ap (λ (x : ℕ). level_of (word p x)) named in
-    swept-here six (top six) p c.args.used c.requires l.total l.s c.level_of-level.result l.invariant (omega arith) is in here-here) in
-    swept-next six (top six) c.args.pool.now c.args.used c.requires l.total l.s c.level_of-level.result c.fan_out_of-n.result c.tokens_in-tokens.result c.frames_of-in-loop-s.result
-    l.invariant (omega arith) r.is c.fan_out_of-n.ensures.0 c.tokens_in-tokens.ensures.0 c.frames_of-in-loop-s.ensures.0) in omega (arith, top-frames, r.most)
+overflow_add-total c = omega (arith, top-frames, (next (goal.at.overflow_add-total c).After-frames_in).most)
 
-pub returns : goal.returns
-returns c =
-    let l = c.loop-s in
-    (swept-end six (top six) c.args.pool.now c.args.used c.requires l.total l.s l.invariant (omega arith), omega (arith, top-frames, l.invariant.most))
+pub loop-header-preserved : goal.loop-header-preserved
+loop-header-preserved c = next (goal.at.loop-header-preserved c).After-frames_in
+
+pub returns-clause-exact : goal.returns-clause-exact
+returns-clause-exact c = swept-end six (top six) c.args.pool.now c.args.used c.requires c.loop-header.total c.loop-header.header c.loop-header.invariant (omega arith)

@@ -5,8 +5,8 @@ use Rattle.model.specs.Ladder.{top}
 use Rattle.pool.proofs.FreeFrames.{Swept}
 use Rattle.pages.proofs.read.free_frames.Given as goal
 
-abbrev pub invariant-loop-s : goal.invariant-loop-s
-invariant-loop-s l = Swept six (top six) l.pool l.used l.total l.s
+abbrev pub invariant-loop-header : goal.invariant-loop-header
+invariant-loop-header l = Swept six (top six) l.pool l.used l.total l.header
 
-abbrev pub decreases-loop-s : goal.decreases-loop-s
-decreases-loop-s l = l.used - l.s
+abbrev pub decreases-loop-header : goal.decreases-loop-header
+decreases-loop-header l = l.used - l.header

@@ -1,69 +1,58 @@
-use Prim.Native.Nat.{ℕ, ◌+◌, ◌*◌, ◌-◌, ◌≤◌, ◌<◌}
-use native.Mathlib.Omega.{arith}
-use native.Mathlib.Numerals.{sub-one}
 use mathlib.Core.List.{List}
-use mathlib.Core.Path.{◌≡◌, refl, sym, ap, ap₂, ◌∙◌}
+use mathlib.Core.Bool.{false}
+use mathlib.Core.Path.{◌≡◌, sym, ap, ◌∙◌, subst}
+use Prim.Native.Nat.{ℕ, ◌+◌, ◌*◌, ◌<◌}
+use native.Mathlib.Omega.{arith}
+use lib.Dec.{leb}
 use lib.ListN.{length}
 use Rattle.sizes.specs.Six.{six}
-use Rattle.pool.specs.Nodes.{children_first}
-use Rattle.pool.specs.Words.{fan_out_of, first_child}
-use Rattle.pool.proofs.Need.{pick-here, pick-look, PickDown, pick-down-at}
-use Rattle.pool.proofs.Sizes.{frames-below}
+use Rattle.sizes.specs.Size.{code_of}
+use Rattle.sizes.proofs.Size.{code-some}
+use Rattle.model.specs.Lists.{first}
+use Rattle.pool.specs.Words.{word, max_of, has_token, fan_out_of, frames_of}
+use Rattle.pool.proofs.Need.{PickDown}
+use Rattle.pages.proofs.Picks.{pick-run, pick-found, pick-down}
 use Rattle.pages.proofs.room.+first_base.Goals as goal
-use Rattle.pages.proofs.room.+first_base.Goals.{After-frames_of-size, Else-token_of-eq1}
+use Rattle.pages.proofs.room.+first_base.Goals.{Else-has_token, After-first_child_with_room-number}
 
--- a node without token lies above the block's level, and has a child with room
-abbrev look : (t : ℕ) (c : Else-token_of-eq1 t) →
-    (let s = c.args in let P : List ℕ = s.pool.now in
-    (s.code < s.level) × (first_child P s.q.0 + fan_out_of six s.level ≤ length P) × (children_first s.code P (first_child P s.q.0) (fan_out_of six s.level) < fan_out_of six s.level))
-look t c =
-    pick-look c.args.level c.args.code c.args.pool.now c.args.q.0 c.requires (λ z. c.if-token_of-eq1.false (omega (arith, c.token_of.ensures.0, c.word-v.ensures)))
+abbrev none : (t : ℕ) (c : Else-has_token t) → has_token (word c.args.pool.now c.args.node.0) ≡ false
+none t c = ap has_token (sym c.at-node.ensures) ∙ sym c.has_token.ensures ∙ c.if-has_token.false
 
 -- what the call below asks for and gives
-down : (t : ℕ) (c : After-frames_of-size t) →
-    (let s = c.args in let k = c.link_of-first in let i = c.first_child_with_room-i in
-    PickDown s.level s.code s.pool.now s.q.0 (k.result + 1) c.fan_out_of.result i.result c.frames_of-size.result (s.level - 1) (k.result + 1 + i.result))
-down t c =
-    let a = c.args in
-    let v = c.word-v in
-    let k = c.link_of-first in
-    let i = c.first_child_with_room-i in
-    let l : a.code < a.level = (let look-here : (let s = c.args in let P : List ℕ = s.pool.now in
-    (s.code < s.level) × (first_child P s.q.0 + fan_out_of six s.level ≤ length P) × (children_first s.code P (first_child P s.q.0) (fan_out_of six s.level) < fan_out_of six s.level)) = pick-look c.args.level c.args.code c.args.pool.now c.args.q.0 c.requires (λ z. c.if-token_of-eq1.false (omega (arith, c.token_of.ensures.0, c.word-v.ensures))) in look-here).0 in
-    pick-down-at a.level a.code a.pool.now a.q.0 (k.result + 1) c.fan_out_of.result i.result c.frames_of-size.result (a.level - 1) (k.result + 1 + i.result)
-    c.requires (λ z. c.if-token_of-eq1.false (omega (arith, c.token_of.ensures.0, v.ensures))) l (omega (arith, k.ensures.0, v.ensures)) c.fan_out_of.ensures.0 i.ensures
-    (c.frames_of-size.ensures.0 ∙ frames-below a.level (omega (arith, c.requires.lo))) (sub-one a.level) refl
+step : (t : ℕ) (c : After-first_child_with_room-number t) →
+    (let s = c.args in let first : ℕ = c.in-Some.first.0 in let number : ℕ = c.first_child_with_room-number.result in let below = c.in-Some-smaller.below in
+    PickDown (code_of s.size) (code_of s.wanted) s.pool.now s.node.0 first (fan_out_of six (code_of s.size)) number (frames_of six (code_of below)) (code_of below) (first + number))
+step t c =
+    let s = c.args in
+    pick-down s.size s.wanted c.in-Some-smaller.below s.pool.now s.node.0 c.in-Some.first.0 c.first_child_with_room-number.result c.requires
+    (ap has_token (sym c.at-node.ensures) ∙ sym c.has_token.ensures ∙ c.if-has_token.false) c.in-Some-smaller.ensures.below (omega (arith, c.in-Some.ensures.opened, c.at-node.ensures))
+    (c.first_child_with_room-number.ensures ∙ ap (first (λ v. leb (code_of s.wanted) (max_of v))) c.children-block.ensures)
 
-pub returns-then-token_of-eq1 : goal.returns-then-token_of-eq1
-returns-then-token_of-eq1 t c = let s = c.args in (sym (pick-here s.level s.code s.pool.now s.q.0 (omega (arith, c.token_of.ensures.0, c.word-v.ensures))), omega arith)
+pub children-block-requires-clause-within : goal.children-block-requires-clause-within
+children-block-requires-clause-within t c = grind (arith, pick-run _ _ _ _ c.requires)
 
-pub fan_out_of-requires : goal.fan_out_of-requires
-fan_out_of-requires t c = omega (arith, (look t (goal.at.fan_out_of-requires t c).Else-token_of-eq1).0, c.requires.lo, c.requires.hi)
+pub first_child_with_room-number-requires : goal.first_child_with_room-number-requires
+first_child_with_room-number-requires t c =
+    subst (λ (xs : List ℕ). first (λ v. leb (code_of c.args.wanted) (max_of v)) xs < length xs) (sym c.children-block.ensures)
+    (pick-found (code_of c.args.size) (code_of c.args.wanted) c.args.pool.now c.args.node.0 c.requires (none t (goal.at.first_child_with_room-number-requires t c).Else-has_token) c.in-Some.first.0 (omega (arith, c.in-Some.ensures.opened, c.at-node.ensures)))
 
-pub first_child_with_room-i-requires : goal.first_child_with_room-i-requires
-first_child_with_room-i-requires t c =
-    let P : List ℕ = c.args.pool.now in
-    let k = look t (goal.at.first_child_with_room-i-requires t c).Else-token_of-eq1 in
-    let e : c.link_of-first.result + 1 ≡ first_child P c.args.q.0 = omega (arith, c.link_of-first.ensures.0, c.word-v.ensures) in
-    (omega (arith, k.1, c.fan_out_of.ensures.0, e), omega (arith, k.2, c.fan_out_of.ensures.0, ap₂ (children_first c.args.code P) e c.fan_out_of.ensures.0))
+pub overflow_add-first : goal.overflow_add-first
+overflow_add-first t c = let k = (step t (goal.at.overflow_add-first t c).After-first_child_with_room-number).ask in omega (arith, k.readable.at, k.readable.fit)
 
-pub frames_of-size-requires : goal.frames_of-size-requires
-frames_of-size-requires t c = omega (arith, (look t (goal.at.frames_of-size-requires t c).Else-token_of-eq1).0, c.requires.lo, c.requires.hi)
+pub first_base-within-requires : goal.first_base-within-requires
+first_base-within-requires t c = (omega (arith, c.in-Some-smaller.ensures.below, code-some c.args.size), (step t (goal.at.first_base-within-requires t c).After-first_child_with_room-number).ask)
 
-pub overflow_add-child : goal.overflow_add-child
-overflow_add-child t c = let k = (down t (goal.at.overflow_add-child t c).After-frames_of-size).ask in omega (arith, k.readable.at, k.readable.fit)
+pub overflow_mul-result : goal.overflow_mul-result
+overflow_mul-result t c =
+    let k = (step t (goal.at.overflow_mul-result t c).After-first_child_with_room-number).small in
+    omega (arith, k, ap (λ (f : ℕ). c.first_child_with_room-number.result * f) c.frames_in.ensures.exact)
 
-pub first_base-below-requires : goal.first_base-below-requires
-first_base-below-requires t c = (omega (arith, c.requires.lo, c.requires.deep), (down t (goal.at.first_base-below-requires t c).After-frames_of-size).ask)
+pub overflow_add-result : goal.overflow_add-result
+overflow_add-result t c =
+    let k = (step t (goal.at.overflow_add-result t c).After-first_child_with_room-number).small in
+    omega (arith, k, ap (λ (f : ℕ). c.first_child_with_room-number.result * f) c.frames_in.ensures.exact, c.first_base-within.ensures.exact)
 
-pub overflow_mul-base : goal.overflow_mul-base
-overflow_mul-base t c = omega (arith, (down t (goal.at.overflow_mul-base t c).After-frames_of-size).small)
-
-pub overflow_add-base : goal.overflow_add-base
-overflow_add-base t c = omega (arith, (down t (goal.at.overflow_add-base t c).After-frames_of-size).small, c.first_base-below.ensures.0)
-
-pub returns : goal.returns
-returns t c =
-    let r = c.first_base-below in
-    let d = down t (goal.at.returns t c).After-frames_of-size in
-    (ap (λ (x : ℕ). c.first_child_with_room-i.result * c.frames_of-size.result + x) r.ensures.0 ∙ sym d.same, omega (arith, d.small, r.ensures.0))
+pub returns-clause-within : goal.returns-clause-within
+returns-clause-within t c =
+    let k = (step t (goal.at.returns-clause-within t c).After-first_child_with_room-number).small in
+    omega (arith, k, ap (λ (f : ℕ). c.first_child_with_room-number.result * f) c.frames_in.ensures.exact, c.first_base-within.ensures.exact)

@@ -1,5 +1,6 @@
--- words_below: the words of a whole path, counted level by level. Assumes nothing.
+-- words_below: the words of a path, counted size by size. Assumes nothing.
+use Rattle.sizes.specs.Size.{code_of}
 use Rattle.pages.proofs.room.+words_below.Given as goal
 
 abbrev pub decreases-words_below : goal.decreases-words_below
-decreases-words_below l = l.level
+decreases-words_below l = code_of l.size

@@ -2,13 +2,17 @@
 use Prim.Native.Nat.{suc, ◌+◌, ◌*◌, ◌-◌, ◌≤◌}
 use mathlib.Core.Path.{◌≡◌}
 use Rattle.sizes.specs.Six.{six, most_code, most_children}
-use Rattle.pool.specs.Room.{seed_rest_w}
+use Rattle.pool.specs.Room.{seed_openings_w}
+use Rattle.pages.specs.Before.{left_by}
 use Rattle.pages.proofs.room.seed_room.Given as goal
 
--- the total so far and what is left are what the first block left; a block has a frame at least, and opens a block of children a level at most
-abbrev pub invariant-loop-a : goal.invariant-loop-a
-invariant-loop-a l =
-    (l.total + seed_rest_w six (l.end.0 - l.a) l.pool l.a l.end.0 ≡ l.initial.total + seed_rest_w six (l.end.0 - l.initial.a) l.pool l.initial.a l.end.0) × (l.total ≤ suc most_children * most_code * l.a) × (l.a ≤ l.end.0)
+-- the total so far and what is left are the seed's; a block has a frame at least, and opens a block of children a size at most
+abbrev pub invariant-loop-at : goal.invariant-loop-at
+invariant-loop-at l = record {
+  counted : l.total + left_by l.before (l.end.0 - l.at.0) l.pool l.at.0 l.end.0 ≡ seed_openings_w six (l.end.0 - l.fn.start.0) l.pool l.fn.start.0 l.end.0;
+  small : l.total ≤ suc most_children * most_code * l.at.0;
+  within : l.at.0 ≤ l.end.0;
+}
 
-abbrev pub decreases-loop-a : goal.decreases-loop-a
-decreases-loop-a l = l.end.0 - l.a
+abbrev pub decreases-loop-at : goal.decreases-loop-at
+decreases-loop-at l = l.end.0 - l.at.0

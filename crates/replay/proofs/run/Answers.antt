@@ -1,0 +1,26 @@
+-- The first line, and then those of the entries.
+use Rattle.replay.proofs.Written.{all_part, on-err}
+use Rattle.replay.proofs.NewStore.{fresh-done, fresh-new}
+use Rattle.replay.proofs.Started.{run-first, run-ok, run-err}
+use Rattle.std.proofs.Common.{ℕ, refl}
+use Rattle.std.proofs.lemmas.List.{length-replicate}
+use Rattle.replay.specs.Printed.{pool_words}
+use Rattle.replay.proofs.run.Goals as goal
+
+pub returns-in_err-write_whole-clause-err : goal.returns-in_err-write_whole-clause-err
+returns-in_err-write_whole-clause-err g c = on-err _ _ (run-first _ _ _ c.in_err-write_whole.ensures.err)
+
+pub unwrap-state-requires : goal.unwrap-state-requires
+unwrap-state-requires g c = fresh-done _ _ _ (length-replicate {A = ℕ} pool_words 0) c.fresh.ensures
+
+pub replay-requires : goal.replay-requires
+replay-requires g c = fresh-new _ _ _ _ refl c.unwrap-state.ensures c.fresh.ensures
+
+pub returns-in-Err-clause-err : goal.returns-in-Err-clause-err
+returns-in-Err-clause-err g c = run-first _ _ _ (all_part _ _ _ c.in_ok-write_whole.ensures.ok)
+
+pub returns-clause-ok : goal.returns-clause-ok
+returns-clause-ok g c = run-ok c.replay.result (λ r. g.R.Read.remaining r.now) c.in-Ok.reader _ _ _ _ c.in-Ok.ensures.inner c.in-Ok.ensures.empty c.in-Ok.ensures.capacity c.in_ok-write_whole.ensures.ok c.replay.ensures.ok
+
+pub returns-clause-err : goal.returns-clause-err
+returns-clause-err g c = run-err c.replay.result (λ r. g.R.Read.remaining r.now) c.in-Ok.reader _ _ _ _ c.in-Ok.ensures.inner c.in-Ok.ensures.empty c.in-Ok.ensures.capacity c.in_ok-write_whole.ensures.ok c.replay.ensures.err
