@@ -19,7 +19,7 @@ mod tests;
 /// How long the program may take for one journal.
 const LIMIT: Duration = Duration::from_secs(60);
 
-/// How many bytes the program's buffers have: that of the lines that wait, and that of its reader.
+/// How many bytes each of the program's two buffers has, and where at most the second reading of one ends.
 const BUFFERS: [usize; 2] = [4_096, 8_192];
 
 /// How many bytes at a time a journal is written that is written in pieces: few, and one off a buffer of the program.

@@ -1,5 +1,5 @@
 -- A journal's entries (document 01, 'Journal'): each is one byte of kind, then a body whose length the kind fixes.
-use Rattle.std.specs.Prelude.{cond, List, [], ◌∷◌, ℕ, ◌+◌, ◌*◌, leb, eqb, length, take, drop}
+use Rattle.std.specs.Prelude.{cond, List, [], ◌∷◌, ℕ, ◌+◌, ◌*◌, leb, eqb, length, take, drop, codes}
 use Rattle.sizes.specs.declared.Address.{Address}
 use Rattle.journal.specs.declared.Entry.{Entry}
 use Rattle.journal.specs.declared.Entry.TheVariants.{Seed, Acquire, Release, Report, Bad, End}
@@ -20,6 +20,11 @@ address s = record { 0 = number s }
 abbrev pub bad_number : BadEntry → ℕ
 bad_number UnknownKind = 12
 bad_number CutShort = 13
+
+-- what it prints
+abbrev pub bad_text : BadEntry → List ℕ
+bad_text UnknownKind = codes "no entry has that kind"
+bad_text CutShort = codes "the entry is cut short"
 
 -- how many bytes the bodies have; a report has none
 abbrev pub seed_body : ℕ

@@ -1,6 +1,6 @@
 // Why bytes are no entry: a name for each refusal number of the journal.
-ghost use Rattle.std.specs.Prelude.{◌≡◌};
-ghost use Rattle.journal.specs.Entries.{bad_number};
+ghost use Rattle.std.specs.Prelude.{◌≡◌, Some};
+ghost use Rattle.journal.specs.Entries.{bad_number, bad_text};
 
 use std::error::Error;
 use std::fmt;
@@ -24,6 +24,8 @@ impl BadEntry {
 }
 
 impl fmt::Display for BadEntry {
+    ghost output = { λ bad. Some (bad_text bad) };
+
     fn fmt<W: fmt::Write>(&self, f: &mut fmt::Formatter<W>) -> fmt::Result {
         match self {
             BadEntry::UnknownKind => write!(f, "no entry has that kind"),

@@ -7,7 +7,7 @@ mod text;
 ghost use Rattle.std.specs.Prelude.{◌≡◌, ◌+◌, ◌≤◌, ◌<◌, length, take, drop, IfOk, IfErr, OnErr};
 ghost use Rattle.pages.specs.Calls.{store};
 ghost use Rattle.journal.specs.Steps.{Serves, Steps};
-ghost use Rattle.journal.specs.declared.Entry.TheVariants.{Bad};
+ghost use Rattle.journal.specs.declared.Entry.TheVariants.{Seed, Acquire, Release, Report, Bad};
 ghost use Rattle.journal.specs.declared.bad_entry.BadEntry.TheVariants.{CutShort};
 ghost use Rattle.journal.specs.Entries.{number as number_of, bad_number, seed_of, acquire_of, release_of, entry_of, behind, read_at};
 
@@ -169,34 +169,81 @@ pub fn read_entry(journal: &[u8], at: usize) -> Reading
     }
 }
 
+// Makes a seed, and answers its line.
+fn seed(state: &mut State, pool: &mut [u32], start: Address, end: Address) -> Line
+    ensures { Serves (store state.old pool.old) (Seed start end) result
+        (store state.new pool.new) }
+{
+    match pages::seed(*state, pool, start, end) {
+        Ok(seeded) => {
+            *state = seeded;
+            Line::Seed(0)
+        }
+        Err(refusal) => Line::Seed(refusal.number()),
+    }
+}
+
+// Makes an acquire, and answers its line.
+fn acquire(state: &mut State, pool: &mut [u32], code: u8) -> Line
+    ensures { Serves (store state.old pool.old) (Acquire code) result
+        (store state.new pool.new) }
+{
+    match pages::acquire(*state, pool, u64::from(code)) {
+        Ok((dealt, page)) => {
+            *state = dealt;
+            Line::Acquire(0, page.base, page.probes)
+        }
+        Err(refusal) => Line::Acquire(refusal.number(), Address(0), 0),
+    }
+}
+
+// Makes a release, and answers its line.
+fn release(state: &mut State, pool: &mut [u32], base: Address, code: u8) -> Line
+    ensures { Serves (store state.old pool.old) (Release base code) result
+        (store state.new pool.new) }
+{
+    match pages::release(*state, pool, base, u64::from(code)) {
+        Ok(released) => {
+            *state = released;
+            Line::Release(0)
+        }
+        Err(refusal) => Line::Release(refusal.number()),
+    }
+}
+
+// Makes a report, and answers its line.
+fn report(state: &State, pool: &[u32]) -> Line
+    ensures { Serves (store state.now pool.now) Report result (store state.now pool.now) }
+{
+    match pages::report(*state, pool) {
+        Ok(told) => {
+            let largest = told.largest.map_or(0, PageSize::code);
+            Line::Report(0, told.seeded, told.free, largest, told.used)
+        }
+        Err(refusal) => Line::Report(refusal.number(), 0, 0, 0, 0),
+    }
+}
+
+// Makes the call that an entry asks for, and answers its line; where it asks for none, nothing changes.
+fn answer(state: &mut State, pool: &mut [u32], entry: Entry) -> Line
+    ensures { Serves (store state.old pool.old) entry result (store state.new pool.new) }
+{
+    match entry {
+        Entry::Seed(start, end) => seed(state, pool, start, end),
+        Entry::Acquire(code) => acquire(state, pool, code),
+        Entry::Release(base, code) => release(state, pool, base, code),
+        Entry::Report => report(state, pool),
+        Entry::Bad(refusal) => Line::Bad(refusal),
+        Entry::End => Line::End,
+    }
+}
+
 /// Makes the call that an entry asks for; where it asks for none, nothing changes.
 pub fn serve(state: State, pool: &mut [u32], entry: Entry) -> Served
     ensures { Serves (store state pool.old) entry result.line (store result.state pool.new) }
 {
-    let (state, line) = match entry {
-        Entry::Seed(start, end) => match pages::seed(state, pool, start, end) {
-            Ok(after) => (after, Line::Seed(0)),
-            Err(refusal) => (state, Line::Seed(refusal.number())),
-        },
-        Entry::Acquire(code) => match pages::acquire(state, pool, u64::from(code)) {
-            Ok((after, page)) => (after, Line::Acquire(0, page.base, page.probes)),
-            Err(refusal) => (state, Line::Acquire(refusal.number(), Address(0), 0)),
-        },
-        Entry::Release(base, code) => match pages::release(state, pool, base, u64::from(code)) {
-            Ok(after) => (after, Line::Release(0)),
-            Err(refusal) => (state, Line::Release(refusal.number())),
-        },
-        Entry::Report => match pages::report(state, pool) {
-            Ok(told) => {
-                let largest = told.largest.map_or(0, PageSize::code);
-                let line = Line::Report(0, told.seeded, told.free, largest, told.used);
-                (state, line)
-            }
-            Err(refusal) => (state, Line::Report(refusal.number(), 0, 0, 0, 0)),
-        },
-        Entry::Bad(refusal) => (state, Line::Bad(refusal)),
-        Entry::End => (state, Line::End),
-    };
+    let mut state = state;
+    let line = answer(&mut state, pool, entry);
     Served { state, line }
 }
 
@@ -205,7 +252,8 @@ pub fn step(state: State, pool: &mut [u32], journal: &[u8], at: usize) -> Steppe
     ensures { let before = store state pool.old in
         Steps before journal.now at result.line (store result.state pool.new) result.next }
 {
+    let mut state = state;
     let Reading { entry, next } = read_entry(journal, at);
-    let Served { state, line } = serve(state, pool, entry);
+    let line = answer(&mut state, pool, entry);
     Stepped { state, line, next }
 }

@@ -1,14 +1,15 @@
 -- The bytes of the next entry say what it is, whatever follows them. Assumes nothing.
-use Rattle.std.proofs.Common.{◌≡◌, ◌≤◌, ◌<◌, ◌≢◌, ℕ, suc, List, [], ◌∷◌, ◌++◌, length, take, get_or, arith, refl, sym, ap, ◌∙◌, append-nil, Result, Ok, Err, IfOk}
+use Rattle.std.proofs.Common.{◌≡◌, ◌≤◌, ◌<◌, ◌≢◌, ℕ, suc, List, [], ◌∷◌, ◌++◌, length, take, get_or, arith, refl, sym, ap, ◌∙◌, append-nil, append_assoc, None, Some, Result, Ok, Err, IfOk}
 use mathlib.Core.Bool.{Bool, true, false, cond}
 use mathlib.Core.Logic.{◌⊎◌, inl, inr}
 use lib.Dec.{leb, eqb}
 use lib.Seq.{length-take-le}
+use lib.ListN.{get_or-append}
 use borrow.Author.Tests.{leb-true, leb-false}
 use native.Mathlib.Decide.{dec_le}
 use Rattle.std.proofs.lemmas.List.{get_or-take}
 use Rattle.std.specs.declared.option.Option.{Option}
-use Rattle.std.specs.Io.KnownBytes.{Consumes, IsAtEnd}
+use Rattle.std.specs.Io.KnownBytes.{Consumes, IsAtEnd, prepend_known}
 use Rattle.model.specs.Calls.{Call}
 use Rattle.journal.specs.declared.Entry.{Entry}
 use Rattle.journal.specs.declared.Entry.TheVariants.{Seed, Acquire, Release, Report, Bad, End}
@@ -43,6 +44,33 @@ module _ {E : Type 0} (a m b : Option (List ℕ)) (e0 e1 : List ℕ) (size : ℕ
       go (yes h) = record { consumes = y a k; fits = omega (arith, long, sized, x); whole = inl (omega (arith, long, sized, x, h)) }
       go (no h) = record { consumes = y a k; fits = omega (arith, long, sized, x); whole = inr (e (omega (arith, h))) }
   entry-read (Err f) x y e = tt
+
+-- an entry has a byte
+kind-some : (k : ℕ) → 1 ≤ kind_size k
+kind-some k = go (eqb k 1) (eqb k 2) (eqb k 3)
+  where
+    go : (a b c : Bool) → 1 ≤ cond a 17 (cond b 2 (cond c 10 1))
+    go true b c = omega arith
+    go false true c = omega arith
+    go false false true = omega arith
+    go false false false = omega arith
+
+-- an entry's bytes are taken of those that are ahead, where these are enough
+module _ (old new into : List ℕ) (n : ℕ) (split : old ≡ take n into ++ new) (within : n ≤ length into) (z : n ≡ kind_size (get_or old 0 0)) where
+  taken-long : length (take n into) ≡ n
+  taken-long = length-take-le n into within
+
+  taken-sized : size_of (take n into) ≡ n
+  taken-sized =
+      let some : 0 < length (take n into) = omega (arith, taken-long, z, kind-some (get_or old 0 0)) in
+      size-is (take n into) some ∙ ap kind_size (sym (ap (λ (l : List ℕ). get_or l 0 0) split ∙ get_or-append (take n into) new 0 0 some)) ∙ sym z
+
+  pub entry-taken : (r : Option (List ℕ)) → ReadsEntry (prepend_known old r) (prepend_known new r) (take n into)
+  entry-taken r = record { consumes = go r; fits = omega (arith, taken-long, taken-sized); whole = inl (omega (arith, taken-long, taken-sized)) }
+    where
+      go : (r : Option (List ℕ)) → Consumes (prepend_known old r) (prepend_known new r) (take n into)
+      go None = tt
+      go (Some xs) = ap (λ (l : List ℕ). l ++ xs) split ∙ append_assoc (take n into) new xs
 
 -- ---- what a whole body gives
 

@@ -21,45 +21,9 @@ part_none a b c n k xs ys p e q =
 
 -- ---- what is sent of what waits
 
--- two steps
-pub sends_then : {a b c : Option (List ℕ)} {x y z : List ℕ} → Sends a b x y → Sends b c y z → Sends a c x z
-sends_then {z = z} p q = record {
-  sent = p.sent ++ q.sent;
-  split = p.split ∙ ap (λ (l : List ℕ). p.sent ++ l) q.split ∙ sym (append_assoc p.sent q.sent z);
-  appends = Appends-trans _ _ _ _ _ p.appends q.appends;
-}
-
--- ... of which the second writes a part
-pub sends_part : {a b c : Option (List ℕ)} {x y : List ℕ} → Sends a b x y → AppendsPart b c y → AppendsPart a c x
-sends_part p q = record {
-  part = p.sent ++ q.part;
-  rest = q.rest;
-  split = p.split ∙ ap (λ (l : List ℕ). p.sent ++ l) q.split ∙ sym (append_assoc p.sent q.part q.rest);
-  appends = Appends-trans _ _ _ _ _ p.appends q.appends;
-}
-
--- all of a text is a part of it
-pub all_part : (a b : Option (List ℕ)) (x : List ℕ) → Appends a b x → AppendsPart a b x
-all_part a b x p = record { part = x; rest = []; split = sym (append-nil x); appends = p }
-
-pub sends_whole : {a b : Option (List ℕ)} {x : List ℕ} → Sends a b x [] → AppendsPart a b x
-sends_whole p = record { part = p.sent; rest = []; split = p.split; appends = p.appends }
-
 -- what waits grows by a text
 pub sends_more : {a b : Option (List ℕ)} {x y : List ℕ} (t : List ℕ) → Sends a b x y → Sends a b (x ++ t) (y ++ t)
 sends_more {y = y} t p = record { sent = p.sent; split = ap (λ (l : List ℕ). l ++ t) p.split ∙ append_assoc p.sent y t; appends = p.appends }
-
--- ... and where the second step fails
-pub part_told : {A E : Type 0} {a b c : Option (List ℕ)} {x y : List ℕ} (r : Result A E) → Sends a b x y → AppendsPart b c y → OnErr r (AppendsPart a c x)
-part_told (Ok k) p q = tt
-part_told (Err e) p q = sends_part p q
-
--- ... and where the second step writes all that waits
-pub sends_last : {a b c : Option (List ℕ)} {x y : List ℕ} → Sends a b x y → Sends b c y [] → AppendsPart a c x
-sends_last p q = sends_whole (sends_then p q)
-
--- what is written in two steps
-pub ruleset steps = (sends_then, part_told, sends_last)
 
 -- a write that fails behind some that did not
 pub ruleset parts = (part_kept, part_none)

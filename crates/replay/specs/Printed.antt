@@ -51,7 +51,7 @@ unfoldable pub after_first : List ℕ → List ℕ
 after_first j = numbered 1 (lines_from (suc (length j)) j new_store)
 
 -- THE OUTPUT OF A JOURNAL. The program's promise, on `run`, in words: of a reader that delivers the bytes j, all of `printed j` is written
--- behind what the writer held, if every read and write succeeds; if one fails, a first part of it. Where the reader's bytes or the writer's
+-- behind what the writer held, where it ends well; where it ends with a failure, a first part of it. Where the reader's bytes or the writer's
 -- are not known, as those of the standard ones, nothing is said of them
 unfoldable pub printed : List ℕ → List ℕ
 printed j = first_line ++ after_first j

@@ -4,7 +4,7 @@ use std::{fmt, io};
 /// Why a replay stops before its end. What was read whole before it has its lines, but where they cannot be written.
 #[derive(Debug, Drop)]
 pub enum Failure {
-    /// Standard input cannot be read, or its buffer gets no memory.
+    /// Standard input cannot be read.
     Input(io::Error),
     /// Standard output cannot be written.
     Output(io::Error),

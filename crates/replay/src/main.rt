@@ -6,20 +6,20 @@ mod failure;
 mod input;
 mod output;
 
-ghost use Rattle.std.specs.Prelude.{◌≡◌, List, ℕ, IfSome, OnOk, OnErr};
+ghost use Rattle.std.specs.Prelude.{◌≡◌, List, ℕ, [], IfSome, OnOk, OnErr};
 ghost use Rattle.std.specs.Io.KnownBytes.{Appends};
-ghost use Rattle.std.specs.Io.Buffered.{reader_remaining};
 ghost use Rattle.pages.specs.Calls.{store};
-ghost use Rattle.replay.specs.Printed.{new_store, printed, after_first, AppendsPart, IsOutput, is_last};
+ghost use Rattle.replay.specs.Source.{left};
+ghost use Rattle.replay.specs.Printed.{new_store, printed, after_first, AppendsPart, Sends, IsOutput, is_last};
+ghost use Rattle.replay.specs.Failure.{IsInput};
 
 use failure::Failure;
-use input::ENTRY;
+use input::{ENTRY, Source};
 use journal::Line;
 use output::Waiting;
 use pages::State;
-use std::alloc::Global;
 use std::io;
-use std::io::{BufReader, Read, Write};
+use std::io::{Read, Write};
 use std::process::ExitCode;
 
 // How many words the pool has.
@@ -32,24 +32,40 @@ fn ends(line: Line) -> bool
     matches!(line, Line::Bad(_) | Line::End)
 }
 
-// Serves the entries one after the other, from the first number on, and prints their lines.
+// Why the replay stops where a read fails: what waits is written all the same, and only where that fails too it is that failure.
+fn stopped<W: Write>(output: &mut W, waiting: &mut Waiting, error: io::Error) -> Failure
+    ensures written { IsInput result →
+        Sends (W.contents output.old) (W.contents output.new) waiting.old [] }
+    ensures part { AppendsPart (W.contents output.old) (W.contents output.new) waiting.old }
+{
+    match waiting.flush(output) {
+        Ok(()) => Failure::Input(error),
+        Err(failure) => failure,
+    }
+}
+
+// Serves the entries one after the other, from the first number on, and prints their lines. Lines wait until no other has room
+// behind them, a read fails, or the replay ends.
 fn replay<R: Read, W: Write>(
-    input: &mut BufReader<R>,
+    input: &mut Source<R>,
     output: &mut W,
     state: State,
     pool: &mut [u32],
 ) -> Result<(), Failure>
     requires { store state pool.old ≡ new_store }
-    ensures ok { OnOk result (IfSome (reader_remaining R.remaining input.old) (λ journal.
+    ensures ok { OnOk result (IfSome (left R.remaining input.old) (λ journal.
         Appends (W.contents output.old) (W.contents output.new) (after_first journal))) }
-    ensures err { OnErr result (IfSome (reader_remaining R.remaining input.old) (λ journal.
+    ensures err { OnErr result (IfSome (left R.remaining input.old) (λ journal.
         AppendsPart (W.contents output.old) (W.contents output.new) (after_first journal))) }
 {
     let mut now = state;
     let mut entry = [0u8; ENTRY];
     let mut waiting = Waiting::new();
     for number in 1..u64::MAX {
-        let size = input::read_entry(input, output, &mut waiting, &mut entry)?;
+        let size = match input.read_entry(&mut entry) {
+            Ok(size) => size,
+            Err(error) => return Err(stopped(output, &mut waiting, error)),
+        };
         let step = journal::step(now, pool, &entry[..size], 0);
         now = step.state;
         waiting.print(output, number, step.line)?;
@@ -63,10 +79,10 @@ fn replay<R: Read, W: Write>(
 
 // Writes the first line, and replays the journal on a new store.
 //
-// THE PROMISE OF THE PROGRAM, of a reader whose bytes are a journal: all of its output is written, or where a read or a write
-// fails the first bytes of it.
+// THE PROMISE OF THE PROGRAM, of a reader whose bytes are a journal: all of its output is written, or where it fails the first
+// bytes of it.
 #[tactic(auto, using(crate::proofs::Replayed::printed_replayed))]
-fn run<R: Read, W: Write>(alloc: Global, input: &mut R, output: &mut W) -> Result<(), Failure>
+fn run<R: Read, W: Write>(input: &mut R, output: &mut W) -> Result<(), Failure>
     ensures ok { OnOk result (IfSome (R.remaining input.old) (λ journal.
         Appends (W.contents output.old) (W.contents output.new) (printed journal))) }
     ensures err { OnErr result (IfSome (R.remaining input.old) (λ journal.
@@ -74,17 +90,13 @@ fn run<R: Read, W: Write>(alloc: Global, input: &mut R, output: &mut W) -> Resul
     ensures replayed { (journal : List ℕ) → IsOutput journal (printed journal) }
 {
     output::write_whole(output, b"pool 16384\n")?;
-    let mut reader = match BufReader::new(alloc, input) {
-        Ok(reader) => reader,
-        Err(error) => return Err(Failure::Input(error)),
-    };
     let mut pool = [0u32; POOL];
     let state = pages::fresh(&mut pool).unwrap();
-    replay(&mut reader, output, state, &mut pool)
+    replay(&mut Source::new(input), output, state, &mut pool)
 }
 
 fn main(rt: HostRuntime) -> ExitCode {
-    match run(rt.alloc(), &mut rt.reader(), &mut io::writer(&rt)) {
+    match run(&mut rt.reader(), &mut io::writer(&rt)) {
         Ok(()) => ExitCode::SUCCESS,
         Err(failure) => {
             // Where standard error cannot be written either, the status says it.
@@ -123,11 +135,12 @@ mod tests {
         }
     }
 
-    // Takes so many bytes, and then fails.
+    // Takes so many bytes, and then fails. Counts the writes.
     #[derive(Drop)]
     struct Sink {
         taken: Vec<u8>,
         room: usize,
+        writes: u64,
     }
 
     impl Write for Sink {
@@ -138,6 +151,7 @@ mod tests {
             }
             self.taken.extend_from_slice(&buf[..most])?;
             self.room -= most;
+            self.writes = self.writes.wrapping_add(1);
             Ok(most)
         }
 
@@ -160,13 +174,15 @@ mod tests {
         let mut output = Sink {
             taken: Vec::new(rt.alloc()),
             room: 10000,
+            writes: 0,
         };
-        let ended = run(rt.alloc(), &mut input, &mut output);
+        let ended = run(&mut input, &mut output);
         assert!(rt; ended.is_ok());
         let _ = ended;
         let wanted =
             b"pool 16384\n1 seed 0\n2 acquire 0 2147483648 7\n3 report 0 24576 20480 1 1423\n";
         assert!(rt; output.taken.as_slice() == wanted.as_slice());
+        assert!(rt; output.writes == 2);
         Ok(())
     }
 
@@ -180,11 +196,9 @@ mod tests {
         let mut output = Sink {
             taken: Vec::new(rt.alloc()),
             room: 10000,
+            writes: 0,
         };
-        let failed = matches!(
-            run(rt.alloc(), &mut input, &mut output),
-            Err(Failure::Input(_))
-        );
+        let failed = matches!(run(&mut input, &mut output), Err(Failure::Input(_)));
         assert!(rt; failed);
         assert!(rt; output.taken.as_slice() == b"pool 16384\n1 seed 0\n".as_slice());
         Ok(())
@@ -200,11 +214,9 @@ mod tests {
         let mut output = Sink {
             taken: Vec::new(rt.alloc()),
             room: 15,
+            writes: 0,
         };
-        let failed = matches!(
-            run(rt.alloc(), &mut input, &mut output),
-            Err(Failure::Output(_))
-        );
+        let failed = matches!(run(&mut input, &mut output), Err(Failure::Output(_)));
         assert!(rt; failed);
         assert!(rt; output.taken.as_slice() == b"pool 16384\n1 se".as_slice());
         Ok(())

@@ -1,8 +1,9 @@
 // The printed lines, by a buffer.
-ghost use Rattle.std.specs.Prelude.{◌≡◌, ◌+◌, ◌≤◌, ◌++◌, List, ℕ, [], length, take, IfOk, OnOk, OnErr};
+ghost use Rattle.std.specs.Prelude.{◌≡◌, ◌+◌, ◌≤◌, ◌++◌, List, ℕ, [], length, take, IfOk, IfErr, OnOk, OnErr};
 ghost use Rattle.std.specs.Io.KnownBytes.{Appends, Keeps};
 ghost use Rattle.journal.specs.Lines.{line_text};
 ghost use Rattle.replay.specs.Printed.{AppendsPart, Sends};
+ghost use Rattle.replay.specs.Failure.{IsInput};
 
 use crate::failure::Failure;
 use journal::{LINE, Line};
@@ -42,6 +43,7 @@ impl Waiting {
     /// Writes what waits. Then nothing waits, also where it fails.
     pub fn flush<W: Write>(&mut self, output: &mut W) -> Result<(), Failure>
         ensures empty { self.new ≡ [] }
+        ensures own { IfErr result (λ failure. IsInput failure → ⊥) }
         ensures ok { OnOk result
             (Sends (W.contents output.old) (W.contents output.new) self.old []) }
         ensures err { OnErr result
@@ -110,6 +112,7 @@ fn write_some<W: Write>(output: &mut W, bytes: &[u8]) -> io::Result<usize>
 /// Writes bytes. Where it fails, the first of them may be written.
 #[tactic(auto, using(crate::proofs::Written::parts))]
 pub fn write_whole<W: Write>(output: &mut W, bytes: &[u8]) -> Result<(), Failure>
+    ensures own { IfErr result (λ failure. IsInput failure → ⊥) }
     ensures ok { OnOk result (Appends (W.contents output.old) (W.contents output.new) bytes.now) }
     ensures err { OnErr result
         (AppendsPart (W.contents output.old) (W.contents output.new) bytes.now) }

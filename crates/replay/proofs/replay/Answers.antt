@@ -7,31 +7,26 @@ use Rattle.replay.proofs.replay.Goals as goal
 pub loop-number-init : goal.loop-number-init
 loop-number-init g c = so-new _ _ _ _ c.new-waiting.ensures c.requires
 
-pub returns-in_err-size-clause-err : goal.returns-in_err-size-clause-err
-returns-in_err-size-clause-err g c = on-err _ _ (so-part _ _ _ _ _ _ _ _ c.loop-number.invariant c.in_err-size.ensures.err)
+pub returns-in-Err-clause-err : goal.returns-in-Err-clause-err
+returns-in-Err-clause-err g c = so-part _ _ _ _ _ _ _ _ c.loop-number.invariant c.stopped.ensures.part
 
 pub returns-in_err-print-clause-err : goal.returns-in_err-print-clause-err
-returns-in_err-print-clause-err g c =
-    let k = so-sent _ _ _ _ _ _ _ _ _ c.loop-number.invariant c.in_ok-size.ensures.ok in
-    on-err _ _ (so-part _ _ _ _ _ _ _ _ k c.in_err-print.ensures.err)
+returns-in_err-print-clause-err g c = on-err _ _ (so-part _ _ _ _ _ _ _ _ c.loop-number.invariant c.in_err-print.ensures.err)
 
 pub loop-number-preserved : goal.loop-number-preserved
 loop-number-preserved g c =
-    let k = so-sent _ _ _ _ _ _ _ _ _ c.loop-number.invariant c.in_ok-size.ensures.ok in
-    let t = so-turns _ _ _ _ _ _ _ _ _ _ _ _ k c.in_ok-size.ensures.reads c.step-step.ensures in
+    let t = so-turns _ _ _ _ _ _ _ _ _ _ _ _ c.loop-number.invariant c.in-Ok.ensures.reads c.step-step.ensures in
     so-sent _ _ _ _ _ _ _ _ _ (t.more (sym c.ends.ensures ∙ c.if-ends.false)) c.in_ok-print.ensures.ok
 
 pub returns-then-ends-clause-ok : goal.returns-then-ends-clause-ok
 returns-then-ends-clause-ok g c =
-    let k = so-sent _ _ _ _ _ _ _ _ _ c.loop-number.invariant c.in_ok-size.ensures.ok in
-    let t = so-turns _ _ _ _ _ _ _ _ _ _ _ _ k c.in_ok-size.ensures.reads c.step-step.ensures in
+    let t = so-turns _ _ _ _ _ _ _ _ _ _ _ _ c.loop-number.invariant c.in-Ok.ensures.reads c.step-step.ensures in
     let d = done-sent _ _ _ _ _ _ (t.all (sym c.ends.ensures ∙ c.if-ends.true)) c.in_ok-print.ensures.ok in
     ok-more _ _ _ (done-all _ _ _ _ _ d) c.flush.ensures.ok
 
 pub returns-then-ends-clause-err : goal.returns-then-ends-clause-err
 returns-then-ends-clause-err g c =
-    let k = so-sent _ _ _ _ _ _ _ _ _ c.loop-number.invariant c.in_ok-size.ensures.ok in
-    let t = so-turns _ _ _ _ _ _ _ _ _ _ _ _ k c.in_ok-size.ensures.reads c.step-step.ensures in
+    let t = so-turns _ _ _ _ _ _ _ _ _ _ _ _ c.loop-number.invariant c.in-Ok.ensures.reads c.step-step.ensures in
     let d = done-sent _ _ _ _ _ _ (t.all (sym c.ends.ensures ∙ c.if-ends.true)) c.in_ok-print.ensures.ok in
     err-more _ _ _ (done-part _ _ _ _ _ d) c.flush.ensures.err
 

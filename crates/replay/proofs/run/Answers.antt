@@ -1,5 +1,5 @@
 -- The first line, and then those of the entries.
-use Rattle.replay.proofs.Written.{all_part, on-err}
+use Rattle.replay.proofs.Written.{on-err}
 use Rattle.replay.proofs.NewStore.{fresh-done, fresh-new}
 use Rattle.replay.proofs.Started.{run-first, run-ok, run-err}
 use Rattle.std.proofs.Common.{ℕ, refl}
@@ -16,11 +16,8 @@ unwrap-state-requires g c = fresh-done _ _ _ (length-replicate {A = ℕ} pool_wo
 pub replay-requires : goal.replay-requires
 replay-requires g c = fresh-new _ _ _ _ refl c.unwrap-state.ensures c.fresh.ensures
 
-pub returns-in-Err-clause-err : goal.returns-in-Err-clause-err
-returns-in-Err-clause-err g c = run-first _ _ _ (all_part _ _ _ c.in_ok-write_whole.ensures.ok)
-
 pub returns-clause-ok : goal.returns-clause-ok
-returns-clause-ok g c = run-ok c.replay.result (λ r. g.R.Read.remaining r.now) c.in-Ok.reader _ _ _ _ c.in-Ok.ensures.inner c.in-Ok.ensures.empty c.in-Ok.ensures.capacity c.in_ok-write_whole.ensures.ok c.replay.ensures.ok
+returns-clause-ok g c = run-ok c.replay.result _ _ _ _ _ c.new.ensures c.in_ok-write_whole.ensures.ok c.replay.ensures.ok
 
 pub returns-clause-err : goal.returns-clause-err
-returns-clause-err g c = run-err c.replay.result (λ r. g.R.Read.remaining r.now) c.in-Ok.reader _ _ _ _ c.in-Ok.ensures.inner c.in-Ok.ensures.empty c.in-Ok.ensures.capacity c.in_ok-write_whole.ensures.ok c.replay.ensures.err
+returns-clause-err g c = run-err c.replay.result _ _ _ _ _ c.new.ensures c.in_ok-write_whole.ensures.ok c.replay.ensures.err

@@ -6,8 +6,7 @@ use Rattle.std.specs.Io.KnownBytes.{Consumes}
 use Rattle.std.proofs.KnownBytes.{Consumes-trans}
 use borrow.Rule.Slice.PartMut.{put_mid, post_of}
 use lib.Seq.{take-add, take-append-le}
-use Rattle.replay.proofs.Written.{sends_then, part_told}
-use Rattle.replay.proofs.input.fill.Goals as goal
+use Rattle.replay.proofs.input.Source.fill.Goals as goal
 
 -- the first of some bytes that are put at an index, behind those before it
 front-put : (a k n : ℕ) (xs ys : List ℕ) → a ≤ length xs → n ≤ length ys → take (a + n) (put_mid a k xs ys) ≡ take a xs ++ take n ys
@@ -23,13 +22,9 @@ loop-at-preserved g c =
     let h : at ≤ length c.loop-at.bytes = search rules in
     let b = c.in_ok-count.ensures.bound in
     record {
-      sends = sends_then c.loop-at.invariant.sends c.in_ok-count.ensures.ok;
       same_length = search (rules, overwrites);
       from = search rules;
       to = search rules;
       keeps = take-put_mid_below _ _ _ _ _ c.loop-at.invariant.from h ∙ c.loop-at.invariant.keeps;
       reads = λ first k. subst (Consumes first _) (sym (front-put at _ got c.loop-at.bytes c.read_some.new.bytes h b)) (Consumes-trans _ _ _ _ _ (c.loop-at.invariant.reads first k) c.in_ok-count.ensures.reads);
     }
-
-pub returns-in_err-count-clause-err : goal.returns-in_err-count-clause-err
-returns-in_err-count-clause-err g c = part_told _ c.loop-at.invariant.sends c.in_err-count.ensures.err
