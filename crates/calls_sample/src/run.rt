@@ -1,4 +1,6 @@
 // The calls on a store since it was begun.
+ghost use Rattle.std.specs.Prelude.{◌≡◌, ◌≤◌, length, take};
+
 use crate::answer::Answer;
 use crate::call::Call;
 use crate::digest::Digest;
@@ -19,7 +21,10 @@ pub struct Run {
 }
 
 // The words of a pool that the digest takes after a call: all, or those in use and some behind them.
-fn reach(pool: &[u32], used: usize) -> &[u32] {
+fn reach(pool: &[u32], used: usize) -> &[u32]
+    ensures fits { length result.now ≤ length pool.now }
+    ensures first { result.now ≡ take (length result.now) pool.now }
+{
     if pool.len() <= SMALL {
         return pool;
     }

@@ -1,13 +1,13 @@
 -- What an acquire, a release and a report of a sound store ask of the functions below them, and their replies by what these answer. For the six sizes. Assumes nothing.
 use mathlib.Core.Path.{◌≡◌, refl, sym, ap, ◌∙◌, subst}
 use mathlib.Core.Logic.{◌⊎◌, inl, inr}
-use mathlib.Core.Bool.{Bool, true, false, cond, ◌&&◌}
+use mathlib.Core.Bool.{Bool, true, false, true≢false, not, cond, ◌&&◌}
 use mathlib.Core.List.{List, [], ◌∷◌}
 use Prim.Native.Nat.{ℕ, zero, suc, pred, ◌+◌, ◌-◌, ◌*◌, ◌/◌, ◌%◌, ◌≤◌, ◌<◌}
 use native.Mathlib.Omega.{arith}
 use lib.Dec.{leb, ltb, eqb}
 use lib.ListN.{length}
-use borrow.Author.Tests.{ltb-true, ltb-false, leb-true, leb-false, eqb-true, eqb-false, le-ltb, le-leb}
+use borrow.Author.Tests.{ltb-true, ltb-false, leb-true, leb-false, eqb-true, eqb-false, le-ltb, le-leb, not-true, not-false}
 use Rattle.sizes.specs.Ladder.{smallest, largest as largest_code, bytes, code, frame_address, address_frame}
 use Rattle.sizes.specs.Six.{six}
 use Rattle.sizes.proofs.Six.{six-multiplies, largest-most, bytes-largest, bytes_most}
@@ -37,7 +37,7 @@ use Rattle.pool.proofs.Pick.{pick_w-is}
 use Rattle.pool.proofs.Sizes.{page, frames-own, root-level, small-six, top-frames, frame-address}
 use Rattle.pool.proofs.With.{newest-sum, newest-fit}
 use Rattle.pages.specs.Frames.{is_free}
-use Rattle.pages.specs.Calls.{Store, store, deal, tell, plain, settle, SoundStore, refusals, acted, lacks_room, refusal_of, served, Places}
+use Rattle.pages.specs.Calls.{Store, Reply, store, deal, tell, plain, settle, SoundStore, refusals, acted, lacks_room, refusal_of, served, Replies, Places}
 use Rattle.pages.proofs.Decide.{sound-check, sound-words}
 use Rattle.pages.proofs.Shown.{free-view}
 use Rattle.pages.proofs.Refusals.{Named, acquire-1, acquire-8, acquire-9, acquire-0, release-1, release-2, release-3, release-6, release-7, release-9, release-0}
@@ -125,6 +125,14 @@ module _ (s : Store) where
   accepted-reply : (c : Call) → refusal_of six places pool_limit s c ≡ 0 → acted six places pool_limit s c ≡ served six places pool_limit s c
   unfolding served
   accepted-reply c e = ap (λ (x : ℕ). settle x s (acted six places pool_limit s c)) (sym e)
+
+  -- the check b has said no
+  pub unsound-replies : (c : Call) (b : Bool) → not b ≡ true → (SoundStore six places pool_limit s → b ≡ true) → Replies six places pool_limit s c (plain 10 s)
+  unsound-replies c b e k = record { unsound = λ n. refl; sound = λ h. absurd (true≢false (sym (k h) ∙ not-true b e)) }
+
+  -- it has said yes, and the call is served
+  pub sound-replies : (c : Call) (b : Bool) (r : Reply) → not b ≡ false → (b ≡ true → SoundStore six places pool_limit s) → r ≡ served six places pool_limit s c → Replies six places pool_limit s c r
+  sound-replies c b r e k q = record { unsound = λ n. absurd (n (k (not-false b e))); sound = λ h. q }
 
 -- ---- a sound store
 module _ (s : Store) (a : Places six places pool_limit s) (h : SoundStore six places pool_limit s) where

@@ -11,7 +11,7 @@ use Rattle.sizes.specs.Ladder.{Ladder, largest, bytes, address_frame}
 use Rattle.sizes.specs.Laws.{MultipliesUp}
 use Rattle.sizes.specs.Six.{six, most_code}
 use Rattle.sizes.proofs.Six.{six-multiplies, largest-most}
-use Rattle.model.specs.Calls.{Region, seed, seeded}
+use Rattle.model.specs.Calls.{Region, seeded, Call, seed}
 use Rattle.model.specs.Ladder.{frames, top}
 use Rattle.model.specs.Tree.{free}
 use Rattle.model.specs.Lists.{sum}
@@ -101,6 +101,12 @@ module _ (L : Ladder) (most limit : ℕ) (m : MultipliesUp L) (small : suc (top 
       ]
 
 module _ (L : Ladder) (most limit : ℕ) (s : Store) where
+  -- a refusal is the reply
+  pub refused-is : (c : Call) (n : ℕ) → n ≡ refusal_of L most limit s c → (n ≡ 0 → ⊥) → plain n s ≡ served L most limit s c
+  unfolding served
+  refused-is c zero e z = absurd (z refl)
+  refused-is c (suc n) e z = ap (λ (k : ℕ). settle k s (acted L most limit s c)) e
+
   -- the stores and the region more are the reply of a seed that is not refused
   pub seeded-is : (x y f g u : ℕ) (p starts ends : List ℕ) → 0 ≡ refusal_of L most limit s (seed x y) → f ≡ address_frame L x → g ≡ address_frame L y → u ≡ (seed_w L (g - f) (words_of s) f g).used → p ≡ (seed_w L (g - f) (words_of s) f g).pool
       → starts ≡ set s.state.starts (length (regions_of L s.state.starts s.state.ends)) x → ends ≡ set s.state.ends (length (regions_of L s.state.starts s.state.ends)) y

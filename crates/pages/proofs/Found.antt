@@ -1,7 +1,7 @@
 -- What was checked is sound. Assumes nothing.
 use mathlib.Core.List.{List}
-use mathlib.Core.Path.{◌≡◌, refl, ap, ap₂, subst, ◌∙◌}
-use Prim.Native.Nat.{ℕ, zero, suc}
+use mathlib.Core.Path.{◌≡◌, ap, ap₂, subst, ◌∙◌}
+use Prim.Native.Nat.{ℕ}
 use lib.Dec.{ltb}
 use Rattle.std.specs.Prelude.{Ok, Err, IsErrAnd}
 use Rattle.std.specs.declared.result.Result.{Result}
@@ -10,19 +10,14 @@ use Rattle.sizes.proofs.Six.{six-multiplies}
 use Rattle.pool.specs.Limits.{places, pool_limit}
 use Rattle.model.specs.Calls.{Call}
 use Rattle.pages.specs.Answers.{number_of, reply_of}
-use Rattle.pages.specs.Calls.{Store, Reply, store, plain, settle, Places, SoundStore, acted, refusal_of, served, Replies}
+use Rattle.pages.specs.Calls.{Store, Reply, store, plain, Places, SoundStore, refusal_of, served, Replies}
 use Rattle.pages.specs.PassesCheck.{PassesCheck}
 use Rattle.pages.specs.declared.checked.Checked.{Checked}
 use Rattle.pages.specs.declared.refusal.Refusal.{Refusal}
 use Rattle.pages.specs.declared.state.State.{State}
+use Rattle.pages.proofs.AskSeed.{refused-is}
 use Rattle.pages.proofs.Decide.{check_sound, sound-check}
 use Rattle.pages.proofs.Refused.{number_of-some}
-
--- a refusal number is the reply of the store that it got
-refused-is : (s : Store) (c : Call) (n : ℕ) → n ≡ refusal_of six places pool_limit s c → (n ≡ 0 → ⊥) → plain n s ≡ served six places pool_limit s c
-unfolding served
-refused-is s c zero e z = absurd (z refl)
-refused-is s c (suc n) e z = ap (λ (k : ℕ). settle k s (acted six places pool_limit s c)) e
 
 -- the store that was checked
 abbrev pub seen : Checked → Store
@@ -60,7 +55,7 @@ module _ {t : State} {p : List ℕ} (here : Here t p) where
   refuses ok c (Ok a) e h q = absurd h
   refuses ok c (Err d) e h q = record {
     unsound = λ n. absurd (n sound-here);
-    sound = λ _. ap (λ (x : Refusal). plain (number_of x) (store t p)) h ∙ refused-is (store t p) c (number_of e) (number-here c (number_of e) q) (number_of-some e);
+    sound = λ _. ap (λ (x : Refusal). plain (number_of x) (store t p)) h ∙ refused-is six places pool_limit (store t p) c (number_of e) (number-here c (number_of e) q) (number_of-some e);
   }
 
   -- what was done is the reply

@@ -20,6 +20,7 @@ pub mod Turns
 pub mod SpanTests
 pub mod Ways
 pub mod Found
+pub mod Answers
 pub mod Picks
 pub mod Counts
 pub mod Sweeps

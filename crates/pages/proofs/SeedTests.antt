@@ -1,5 +1,6 @@
 -- The refusal number of a seed by its addresses and the regions, before the pool is looked at. Assumes a ladder whose sizes multiply up.
 use mathlib.Core.Path.{◌≡◌, refl, sym, ◌∙◌}
+use mathlib.Core.Logic.{◌⊎◌, inl, inr, ◌≢◌}
 use mathlib.Core.Bool.{Bool, true, false, not}
 use mathlib.Core.List.{List, [], ◌∷◌, ◌++◌}
 use Prim.Native.Nat.{ℕ, zero, suc, ◌-◌, ◌%◌, ◌≤◌, ◌<◌}
@@ -105,6 +106,18 @@ module _ (L : Ladder) (most limit : ℕ) (m : MultipliesUp L) (s : State) (h : r
     newest-length regions,
     test-4 (address_frame L x) (address_frame L y) (spans-frames L m x y n).some,
   )
+
+  -- 2: no whole pages, or none
+  pub region-2 : (x y : ℕ) → (x % bytes L smallest ≢ 0) ⊎ ((y % bytes L smallest ≢ 0) ⊎ (y ≤ x)) → region_refusal L most limit s x y ≡ 2
+  unfolding region_refusal refusals
+  region-2 x y z = go (eqb (x % bytes L smallest) 0) (eqb (y % bytes L smallest) 0) refl refl z
+    where
+      go : (v w : Bool) → eqb (x % bytes L smallest) 0 ≡ v → eqb (y % bytes L smallest) 0 ≡ w → (x % bytes L smallest ≢ 0) ⊎ ((y % bytes L smallest ≢ 0) ⊎ (y ≤ x)) → region_refusal L most limit s x y ≡ 2
+      go false w e f z = rw (e, region_refusal, refusals)
+      go true false e f z = rw (e, f, region_refusal, refusals)
+      go true true e f (inl z) = absurd (z (eqb-true (x % bytes L smallest) 0 e))
+      go true true e f (inr (inl z)) = absurd (z (eqb-true (y % bytes L smallest) 0 f))
+      go true true e f (inr (inr z)) = rw (e, f, le-leb y x z, region_refusal, refusals)
 
   -- 5: every place has a region
   pub region-5 : (x y : ℕ) → Spans L x y → most ≤ length (regions_of L s.starts s.ends) → region_refusal L most limit s x y ≡ 5
