@@ -1,5 +1,5 @@
 -- What an answer means in the words of `Calls`: the number of a refusal, and the reply that a Result says.
-use Rattle.std.specs.Prelude.{List, ℕ, Ok, Err}
+use Rattle.std.specs.Prelude.{List, ℕ, Ok, Err, codes}
 use Rattle.std.specs.declared.result.Result.{Result}
 use Rattle.sizes.specs.Size.{code_or_none}
 use Rattle.pages.specs.declared.state.State.{State}
@@ -22,6 +22,20 @@ number_of OutOfPages = 8
 number_of OutOfRoom = 9
 number_of Unsound = 10
 number_of BadPool = 11
+
+-- what a refusal prints
+abbrev pub refusal_text : Refusal → List ℕ
+refusal_text BadCode = codes "no size has that code"
+refusal_text BadAlignment = codes "not aligned, or empty"
+refusal_text PastTheEnd = codes "past the end of memory"
+refusal_text Overlap = codes "seeded already"
+refusal_text RegionsFull = codes "no place for a further region"
+refusal_text NotSeeded = codes "never seeded"
+refusal_text AlreadyFree = codes "free already"
+refusal_text OutOfPages = codes "no free page of that size"
+refusal_text OutOfRoom = codes "too few pool words are left"
+refusal_text Unsound = codes "state and pool are not sound"
+refusal_text BadPool = codes "a pool of no words, or of too many"
 
 -- the refusal number of a result, 0 for none
 abbrev pub refusal_in : {A : Type 0} → Result A Refusal → ℕ

@@ -1,6 +1,6 @@
 // Why a call is refused: a name for each refusal number of the C header.
-ghost use Rattle.std.specs.Prelude.{◌≡◌};
-ghost use Rattle.pages.specs.Answers.{number_of};
+ghost use Rattle.std.specs.Prelude.{◌≡◌, Some};
+ghost use Rattle.pages.specs.Answers.{number_of, refusal_text};
 ghost use Rattle.pages.specs.declared.refusal.Refusal.TheVariants.{BadCode};
 
 use sizes::UnknownSize;
@@ -53,6 +53,8 @@ impl From<UnknownSize> for Refusal {
 }
 
 impl fmt::Display for Refusal {
+    ghost output = { λ refusal. Some (refusal_text refusal) };
+
     fn fmt<W: fmt::Write>(&self, f: &mut fmt::Formatter<W>) -> fmt::Result {
         match self {
             Refusal::BadCode => write!(f, "no size has that code"),

@@ -1,5 +1,6 @@
 -- A page size of the code, as a code of the ladder.
-use Rattle.std.specs.Prelude.{◌≡◌, ℕ, ◌≤◌, Result, MatchResult, Option, Some, None}
+use Rattle.std.specs.Prelude.{◌≡◌, List, ◌++◌, ℕ, ◌≤◌, Result, MatchResult, Option, Some, None, codes}
+use Rattle.std.specs.Fmt.{decimal}
 use Rattle.sizes.specs.Six.{most_code}
 use Rattle.sizes.specs.declared.page_size.PageSize.{PageSize}
 use Rattle.sizes.specs.declared.page_size.PageSize.TheVariants.{Size4KiB, Size16KiB, Size2MiB, Size1GiB, Size512GiB, Size128TiB}
@@ -26,3 +27,7 @@ IsSize n = (1 ≤ n) × (n ≤ most_code)
 -- the size with this code, or an error with a number that is no code
 abbrev pub Decodes : ℕ → Result PageSize UnknownSize → Type 0
 Decodes n r = MatchResult r (λ size. code_of size ≡ n) (λ e. (e.0 ≡ n) × (IsSize n → ⊥))
+
+-- what a number that is no code prints
+abbrev pub unknown_text : ℕ → List ℕ
+unknown_text n = codes "no page size has code " ++ decimal n

@@ -4,7 +4,7 @@ ghost use Rattle.sizes.specs.Ladder.{bytes, fan_out, largest as largest_of, smal
 ghost use Rattle.sizes.specs.Six.{six, most_code, most_bytes, most_children};
 ghost use Rattle.sizes.specs.Size.{code_or_none};
 
-use crate::page_size::PageSize;
+use crate::page_size::{BYTES, PageSize};
 
 // The size with a code, if the number is one.
 fn sized(code: usize) -> Option<PageSize>
@@ -34,7 +34,7 @@ pub fn in_bytes(size: usize) -> u64
     ensures exact { result ≡ bytes six size }
     ensures most { result ≤ most_bytes }
 {
-    sized(size).map_or(0, PageSize::in_bytes)
+    BYTES.get(size).copied().unwrap_or(0)
 }
 
 /// The next smaller size, 0 for none.

@@ -1,8 +1,8 @@
 // The page sizes, with the original's names. Their bytes and fan-outs stand in constant arrays, indexed by a size's code.
-ghost use Rattle.std.specs.Prelude.{◌≡◌, ◌-◌, ◌≤◌};
+ghost use Rattle.std.specs.Prelude.{◌≡◌, ◌-◌, ◌≤◌, Some};
 ghost use Rattle.sizes.specs.Ladder.{bytes, fan_out, smaller as smaller_of, larger as larger_of};
 ghost use Rattle.sizes.specs.Six.{six, most_bytes, most_children};
-ghost use Rattle.sizes.specs.Size.{Decodes, code_of, code_or_none};
+ghost use Rattle.sizes.specs.Size.{Decodes, code_of, code_or_none, unknown_text};
 
 use std::error::Error;
 use std::fmt;
@@ -24,6 +24,8 @@ pub enum PageSize {
 pub struct UnknownSize(pub u64);
 
 impl fmt::Display for UnknownSize {
+    ghost output = { λ unknown. Some (unknown_text unknown.0) };
+
     fn fmt<W: fmt::Write>(&self, f: &mut fmt::Formatter<W>) -> fmt::Result {
         write!(f, "no page size has code {}", self.0)
     }
@@ -53,7 +55,7 @@ impl TryFrom<u64> for PageSize {
 const CODES: usize = 7;
 
 // Code 0 is no size.
-const BYTES: [u64; CODES] = [
+pub(crate) const BYTES: [u64; CODES] = [
     0,
     4096,
     16384,
