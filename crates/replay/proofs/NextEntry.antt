@@ -55,6 +55,16 @@ kind-some k = go (eqb k 1) (eqb k 2) (eqb k 3)
     go false false true = omega arith
     go false false false = omega arith
 
+-- ... and no more than the longest
+pub kind-most : (k : ℕ) → kind_size k ≤ 17
+kind-most k = go (eqb k 1) (eqb k 2) (eqb k 3)
+  where
+    go : (a b c : Bool) → cond a 17 (cond b 2 (cond c 10 1)) ≤ 17
+    go true b c = omega arith
+    go false true c = omega arith
+    go false false true = omega arith
+    go false false false = omega arith
+
 -- an entry's bytes are taken of those that are ahead, where these are enough
 module _ (old new into : List ℕ) (n : ℕ) (split : old ≡ take n into ++ new) (within : n ≤ length into) (z : n ≡ kind_size (get_or old 0 0)) where
   taken-long : length (take n into) ≡ n

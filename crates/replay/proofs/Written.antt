@@ -19,6 +19,13 @@ part_none a b c n k xs ys p e q =
     let q0 : Appends b c [] = subst (λ (i : ℕ). Appends b c (take i ys)) e q in
     record { part = take n xs; rest = drop n xs; split = sym (take-append-drop n xs); appends = subst (Appends a c) (append-nil (take n xs)) (Appends-trans _ _ _ _ _ p q0) }
 
+-- a text is written in three pieces
+pub piece_first : {a b : Option (List ℕ)} (x y : List ℕ) → AppendsPart a b x → AppendsPart a b (x ++ y)
+piece_first x y p = record { part = p.part; rest = p.rest ++ y; split = ap (λ (l : List ℕ). l ++ y) p.split ∙ append_assoc p.part p.rest y; appends = p.appends }
+
+pub piece_then : {a b c : Option (List ℕ)} (x y : List ℕ) → Appends a b x → AppendsPart b c y → AppendsPart a c (x ++ y)
+piece_then x y p q = record { part = x ++ q.part; rest = q.rest; split = ap (λ (l : List ℕ). x ++ l) q.split ∙ sym (append_assoc x q.part q.rest); appends = Appends-trans _ _ _ _ _ p q.appends }
+
 -- ---- what is sent of what waits
 
 -- what waits grows by a text

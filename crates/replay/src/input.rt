@@ -136,7 +136,8 @@ impl<R: Read> Source<R> {
         Ok(at)
     }
 
-    // Takes the next entry's bytes where they are all ahead, and answers how many there are.
+    // Takes the next entry's bytes where they are all ahead, and answers how many there are. As many as the longest entry has are
+    // copied: so many are a few moves, where a length that varies is a call.
     fn take_entry(&mut self, entry: &mut [u8]) -> Option<usize>
         requires { ENTRY ≤ length entry.old }
         ensures bound { IfSome result (λ size. size ≤ length entry.new) }
@@ -149,13 +150,16 @@ impl<R: Read> Source<R> {
             return None;
         }
         let size = entry_size(self.bytes[self.start]);
-        if self.end - self.start < size {
+        if self.end - self.start < size || BUFFER - self.start < ENTRY {
             return None;
         }
-        Some(self.take_ahead(&mut entry[..size]))
+        entry[..ENTRY].copy_from_slice(&self.bytes[self.start..self.start + ENTRY]);
+        self.start += size;
+        Some(size)
     }
 
-    // Reads the next entry's bytes where they are not all ahead.
+    // Reads the next entry's bytes where they are not all ahead, or lie at the buffer's end. Kept apart: where it is inlined, room for
+    // an error is cleared for each entry.
     #[cold]
     #[inline(never)]
     fn fill_entry(&mut self, entry: &mut [u8]) -> io::Result<usize>

@@ -2,7 +2,7 @@
 ghost use Rattle.std.specs.Prelude.{◌≡◌, ◌+◌, ◌≤◌, ◌++◌, List, ℕ, [], length, take, IfOk, IfErr, OnOk, OnErr};
 ghost use Rattle.std.specs.Io.KnownBytes.{Appends, Keeps};
 ghost use Rattle.journal.specs.Lines.{line_text};
-ghost use Rattle.replay.specs.Printed.{AppendsPart, Sends};
+ghost use Rattle.replay.specs.Printed.{AppendsPart, Sends, first_line};
 ghost use Rattle.replay.specs.Failure.{IsInput};
 
 use crate::failure::Failure;
@@ -126,4 +126,16 @@ pub fn write_whole<W: Write>(output: &mut W, bytes: &[u8]) -> Result<(), Failure
         }
     }
     Ok(())
+}
+
+/// Writes the first line, in three writes: who takes the output a write at a time, or lets only a part of it in, has its parts.
+pub fn write_first_line<W: Write>(output: &mut W) -> Result<(), Failure>
+    ensures own { IfErr result (λ failure. IsInput failure → ⊥) }
+    ensures ok { OnOk result (Appends (W.contents output.old) (W.contents output.new) first_line) }
+    ensures err { OnErr result
+        (AppendsPart (W.contents output.old) (W.contents output.new) first_line) }
+{
+    write_whole(output, b"pool ")?;
+    write_whole(output, b"16384")?;
+    write_whole(output, b"\n")
 }
