@@ -136,8 +136,8 @@ impl<R: Read> Source<R> {
         Ok(at)
     }
 
-    // Takes the next entry's bytes where they are all ahead, and answers how many there are. As many as the longest entry has are
-    // copied: so many are a few moves, where a length that varies is a call.
+    // Takes the next entry's bytes where they are all ahead and do not lie at the buffer's end, and answers how many there are. As many
+    // as the longest entry has are copied: so many are a few moves, where a length that varies is a call.
     fn take_entry(&mut self, entry: &mut [u8]) -> Option<usize>
         requires { ENTRY ≤ length entry.old }
         ensures bound { IfSome result (λ size. size ≤ length entry.new) }
