@@ -4,11 +4,9 @@ ghost use Rattle.std.specs.declared.option.Option.{Option};
 ghost use Rattle.std.specs.Io.KnownBytes.{Consumes, Keeps, IsAtEnd};
 ghost use Rattle.replay.specs.Printed.{kind_size, ReadsEntry};
 
+use crate::BUFFER;
 use std::io;
 use std::io::Read;
-
-// How many bytes the buffer has.
-const BUFFER: usize = 4096;
 
 /// How many bytes the longest entry has.
 pub const ENTRY: usize = 17;

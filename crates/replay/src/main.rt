@@ -25,6 +25,9 @@ use std::process::ExitCode;
 // How many words the pool has.
 const POOL: usize = 16384;
 
+// How many bytes each buffer has, that of the input and that of the lines.
+const BUFFER: usize = 4096;
+
 // Whether a line ends the run.
 fn ends(line: Line) -> bool
     ensures { result ≡ is_last line }

@@ -5,14 +5,12 @@ ghost use Rattle.journal.specs.Lines.{line_text};
 ghost use Rattle.replay.specs.Printed.{AppendsPart, Sends, first_line};
 ghost use Rattle.replay.specs.Failure.{IsInput};
 
+use crate::BUFFER;
 use crate::failure::Failure;
 use journal::{LINE, Line};
 use std::io;
 use std::io::Write;
 use std::marker::Model;
-
-// How many bytes the buffer has.
-const BUFFER: usize = 4096;
 
 /// What waits to be written: the first bytes of a buffer.
 #[derive(Drop)]
